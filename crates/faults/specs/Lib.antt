@@ -1,0 +1,3 @@
+pub mod Record
+pub mod Job
+pub mod Call

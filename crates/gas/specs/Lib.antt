@@ -1,0 +1,5 @@
+pub mod Model
+pub mod Soundness
+pub mod Laws
+pub mod Judging
+pub mod Streaming

@@ -1,0 +1,3 @@
+pub mod House
+pub mod Lawful
+pub mod Entries

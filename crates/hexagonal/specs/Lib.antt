@@ -1,0 +1,4 @@
+pub mod Channels
+pub mod Collisions
+pub mod Hexagonal
+pub mod House

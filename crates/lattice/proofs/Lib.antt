@@ -1,0 +1,7 @@
+pub mod Sums
+pub mod Turnings
+pub mod Making
+pub mod Firsts
+pub mod Rings
+pub mod Cells
+pub mod Vectors

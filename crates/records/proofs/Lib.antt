@@ -1,0 +1,12 @@
+pub mod Numbers
+pub mod Headers
+pub mod Turns
+pub mod Rows
+pub mod Ordering
+pub mod Passing
+pub mod Trails
+pub mod Founds
+pub mod Layouts
+pub mod Refusals
+pub mod Inserts
+pub mod Sifts
