@@ -27,6 +27,12 @@ module _ (channels : ℕ) (opposite : ℕ → ℕ) (column : ℕ → ℕ → ℕ
   on-grid : (w h q i : ℕ) → q < channels → i < w * h → neighbour w h q i ≡ reached w (column w q) (row h q) i
   on-grid w h q i below inside = cond-true (ltb q channels && ltb i (w * h)) (reached w (column w q) (row h q) i) i (both-true _ _ (lt-ltb q channels below) (lt-ltb i (w * h) inside))
 
+  -- the neighbour of the cell in column c and row r
+  pub moves-from : (w h q c r : ℕ) → q < channels → c < w → r < h → neighbour w h q (cellAt w c r) ≡ cellAt w (column w q c r) (row h q r)
+  moves-from w h q c r below cIn rIn =
+      on-grid w h q (cellAt w c r) below (cell-below w h c r cIn rIn)
+      ∙ ap₂ (λ (x y : ℕ). cellAt w (column w q x y) (row h q y)) (column-of-cell w c r cIn) (row-of-cell w c r cIn)
+
   pub moves-in : (w h q i : ℕ) → Lawful w h → q < channels → i < w * h → neighbour w h q i < w * h
   moves-in w h q i grid below inside =
       let some : 0 < w = omega (arith, grid .wide) in

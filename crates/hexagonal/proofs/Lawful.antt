@@ -11,11 +11,11 @@ use Rattle.std.proofs.shelf.Bits.{mod-below}
 use Rattle.std.proofs.shelf.Tests.{cases-eq, cases-lt}
 use Rattle.std.proofs.shelf.Ways.{tells}
 use Rattle.lattice.specs.Vectors.{negated, still}
-use Rattle.lattice.specs.Grids.{Lawful, onward, backward}
+use Rattle.lattice.specs.Grids.{Lawful, cellAt, onward, backward}
 use Rattle.lattice.proofs.Rings.{wrap-in, wrap-over, onward-in, backward-in, back-on, on-back}
 use Rattle.gas.specs.Laws.{GasLaws}
 use Rattle.gas.specs.Soundness.{SoundTable}
-use Rattle.gas.proofs.Moves.{Moves, moves-in, moves-back, moves-channel-beyond, moves-cell-beyond}
+use Rattle.gas.proofs.Moves.{Moves, moves-from, moves-in, moves-back, moves-channel-beyond, moves-cell-beyond}
 use Rattle.gas.proofs.Tables.{good-sound}
 use Rattle.hexagonal.specs.Channels.{heading, across, columnBy, rowBy}
 use Rattle.hexagonal.specs.Hexagonal.{hexagonal}
@@ -96,6 +96,10 @@ moves = record {
   row-back = λ w h q r grid below inR.
       below-seven (λ q. rowBy h (across q) (rowBy h q r) ≡ r) refl (back-on h r inR) (back-on h r inR) refl (on-back h r inR) (on-back h r inR) refl q below;
 }
+
+-- what comes by a channel comes from the cell that lies the opposite way
+pub hexagonal-comes : (w h q c r : ℕ) → q < 7 → c < w → r < h → hexagonal .neighbour w h (across q) (cellAt w c r) ≡ cellAt w (columnBy w (across q) c r) (rowBy h (across q) r)
+hexagonal-comes w h q c r below inC inR = moves-from 7 across columnBy rowBy moves w h (across q) c r (across-in q below) inC inR
 
 heading-beyond : (q : ℕ) → 7 ≤ q → heading q ≡ still
 heading-beyond q h = grind (arith, tells)

@@ -1,3 +1,4 @@
 pub mod House
 pub mod Lawful
 pub mod Entries
+pub mod Gathers

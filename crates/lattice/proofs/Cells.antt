@@ -1,11 +1,14 @@
 -- Cells by number, and by column and row.
-use mathlib.Core.Path.{_≡_, sym, _∙_}
+use mathlib.Core.Path.{_≡_, sym, subst, _∙_}
 use Prim.Native.Nat.{ℕ, _+_, _*_, _/_, _%_, _<_, _≤_}
 use native.Mathlib.Omega.{arith}
 use native.Mathlib.Nat.{mul-comm, add-mul, one-mul}
 use Rattle.std.proofs.shelf.Bits.{div-add-mod', div-mul-add, mod-mul-add, mod-below, div-below, mul-le}
 use Rattle.lattice.specs.declared.grid.Grid.{Grid}
+use Rattle.lattice.specs.declared.rows.Rows.{Rows}
 use Rattle.lattice.specs.Grids.{Lawful, cellAt, columnOf, rowOf}
+use Rattle.lattice.specs.Sources.{rowsAround, RowsWithin}
+use Rattle.lattice.proofs.Rings.{onward-in, backward-in}
 
 -- every grid keeps the rules
 pub lawful-grid : (g : Grid) → Lawful (g .width) (g .height)
@@ -35,3 +38,9 @@ column-in w i p = mod-below i w p
 
 pub row-in : (w h i : ℕ) → 0 < w → i < w * h → rowOf w i < h
 row-in w h i p l = div-below i w h p (omega (arith, mul-comm w h))
+
+-- a row and the rows beside it lie within the grid
+pub rows-within : (w h r : ℕ) (rows : Rows) → r < h → rows ≡ rowsAround w h r → RowsWithin (w * h) w rows
+rows-within w h r rows l around =
+    subst (RowsWithin (w * h) w) (sym around)
+    record { here-in = row-fits r w h l; south-in = row-fits _ w h (backward-in h r (omega arith)); north-in = row-fits _ w h (onward-in h r (omega arith)) }

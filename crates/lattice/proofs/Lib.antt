@@ -5,3 +5,4 @@ pub mod Firsts
 pub mod Rings
 pub mod Cells
 pub mod Vectors
+pub mod Writes

@@ -39,3 +39,17 @@ on-back n i h =
           let e : backward n i ≡ i - 1 = wrap-over (i + n - 1) n (omega arith) (omega arith) ∙ omega arith in
           ap (onward n) e ∙ wrap-in (i - 1 + 1) n (omega arith) ∙ omega arith
     ]
+
+-- one on and one back by a comparison
+pub onward-next : (n i : ℕ) → i + 1 < n → onward n i ≡ i + 1
+onward-next n i h = wrap-in (i + 1) n h
+
+pub onward-first : (n i : ℕ) → i < n → n ≤ i + 1 → onward n i ≡ 0
+onward-first n i h k = wrap-over (i + 1) n k (omega arith) ∙ omega arith
+
+-- also one beyond the end
+pub backward-next : (n i : ℕ) → 0 < i → i ≤ n → backward n i ≡ i - 1
+backward-next n i h k = wrap-over (i + n - 1) n (omega arith) (omega arith) ∙ omega arith
+
+pub backward-last : (n i : ℕ) → i ≡ 0 → 0 < n → backward n i ≡ n - 1
+backward-last n i h k = wrap-in (i + n - 1) n (omega arith) ∙ omega arith

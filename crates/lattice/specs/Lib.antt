@@ -4,3 +4,4 @@ pub mod Vectors
 pub mod States
 pub mod Grids
 pub mod GridViews
+pub mod Sources

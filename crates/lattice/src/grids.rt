@@ -24,6 +24,17 @@ impl Grid {
         Ok(Grid { width, height })
     }
 
+    /// The smallest grid: two columns and two rows.
+    pub fn smallest() -> Grid
+        ensures width { λ r. ⌜ r .width ≡ 2 ⌝ }
+        ensures height { λ r. ⌜ r .height ≡ 2 ⌝ }
+    {
+        Grid {
+            width: 2,
+            height: 2,
+        }
+    }
+
     pub fn width(&self) -> u32
         ensures value { λ r. ⌜ r ≡ now (self .entry) .width ⌝ }
         ensures lawful { λ _. ⌜ Lawful (now (self .entry) .width) (now (self .entry) .height) ⌝ }

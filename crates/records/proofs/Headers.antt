@@ -1,9 +1,9 @@
 -- One record at the front of bytes: what its header says, and that nothing else looks so.
 use mathlib.Core.Path.{_≡_, refl, sym, ap, subst, _∙_}
 use mathlib.Core.List.{List, [], _∷_, _++_}
-use Prim.Native.Nat.{ℕ, zero, suc, _+_, _*_, _%_, _^_, _≤_, _<_}
+use Prim.Native.Nat.{ℕ, _+_, _^_, _≤_, _<_}
 use native.Mathlib.Omega.{arith}
-use lib.ListN.{length, take, drop, getD, length-append, length-drop, take-append-drop}
+use lib.ListN.{length, take, drop, getD, length-drop, take-append-drop}
 use lib.Seq.{drop-drop}
 use Rattle.std.proofs.shelf.Lists.{take-at, drop-at, length-take-le}
 use Rattle.std.proofs.shelf.Elements.{all-getD, all-take, all-drop, all-append}

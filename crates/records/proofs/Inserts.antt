@@ -2,10 +2,9 @@
 use mathlib.Core.Path.{_≡_, refl, sym, ap, subst, _∙_}
 use mathlib.Core.Logic.{_≢_}
 use mathlib.Core.Bool.{Bool, true, false, cond}
-use mathlib.Core.List.{List, [], _∷_, _++_, map, append-assoc, append-nil}
-use Prim.Native.Nat.{ℕ, zero, suc, _+_, _≤_, _<_}
+use mathlib.Core.List.{List, [], _∷_, _++_, map, append-nil}
+use Prim.Native.Nat.{ℕ, _+_, _≤_, _<_}
 use native.Mathlib.Omega.{arith}
-use lib.Dec.{ltb}
 use lib.ListN.{length, length-append}
 use Rattle.std.specs.shelf.Lists.{All}
 use Rattle.std.proofs.shelf.Lists.{map-append}
@@ -16,11 +15,12 @@ use Rattle.records.specs.declared.payloads.Places.{Places}
 use Rattle.records.specs.Format.{Bytes, recordOf}
 use Rattle.records.specs.Orders.{skippable}
 use Rattle.records.specs.Walk.{walked}
-use Rattle.records.specs.Files.{Rec, rec, Fine, laid, kinds, lastKind, IsFile}
+use Rattle.records.specs.Files.{Rec, Fine, laid, kinds, lastKind}
 use Rattle.records.specs.Layout.{numberedFrom, numbered, parts, Found}
-use Rattle.records.specs.Laws.{shifted, Same-payloads, Skips-change-nothing}
+use Rattle.records.specs.Laws.{shifted}
 use Rattle.records.proofs.Headers.{record-bytes, laid-bytes}
-use Rattle.records.proofs.Rows.{laid-append, laid-front, kinds-append, kinds-skipped, numbered-append, numbered-skipped, last-append, last-unended}
+use Rattle.records.proofs.Rows.{laid-append, kinds-append, kinds-skipped, numbered-append, numbered-skipped, last-append, last-unended}
+use Rattle.records.proofs.Meets.{laid-front}
 use Rattle.records.proofs.Founds.{done-found}
 use Rattle.records.proofs.Layouts.{file-done}
 
@@ -51,10 +51,10 @@ numbers-shift fs s gs high =
     numbered-append 0 fs (s ∷ gs) ∙ ap (λ m. numberedFrom 0 fs ++ numberedFrom m (s ∷ gs)) zero-first ∙ ap (λ l. numberedFrom 0 fs ++ l) (numbered-skipped n s gs high)
     ∙ sym (ap (map (shifted n)) (numbered-append 0 fs gs ∙ ap (λ m. numberedFrom 0 fs ++ numberedFrom m gs) zero-first) ∙ map-append (shifted n) (numberedFrom 0 fs) (numberedFrom n gs) ∙ (λ i. before n 0 fs (omega arith) i ++ after n n gs (omega arith) i))
 
-module _ (limit : ℕ) (fs : List Rec) (s : Rec) (unended : All (λ f. f .kind ≢ 1) fs) (ff : All Fine fs) (fine : Fine s) (high : 128 ≤ s .kind) where
-  same-kinds : (gs : List Rec) → kinds (fs ++ s ∷ gs) ≡ kinds (fs ++ gs)
-  same-kinds gs = kinds-append fs (s ∷ gs) ∙ ap (λ l. kinds fs ++ l) (kinds-skipped s gs high) ∙ sym (kinds-append fs gs)
+pub kinds-without : (fs : List Rec) (s : Rec) (gs : List Rec) → 128 ≤ s .kind → kinds (fs ++ s ∷ gs) ≡ kinds (fs ++ gs)
+kinds-without fs s gs high = kinds-append fs (s ∷ gs) ∙ ap (λ l. kinds fs ++ l) (kinds-skipped s gs high) ∙ sym (kinds-append fs gs)
 
+module _ (limit : ℕ) (fs : List Rec) (s : Rec) (unended : All (λ f. f .kind ≢ 1) fs) (ff : All Fine fs) (fine : Fine s) (high : 128 ≤ s .kind) where
   last-with : (gs : List Rec) → lastKind (fs ++ gs) ≡ 1 → lastKind (fs ++ s ∷ gs) ≡ 1
   last-with [] e = absurd (last-unended fs unended (ap lastKind (sym (append-nil fs)) ∙ e))
   last-with (g ∷ gs) e = last-append fs s (g ∷ gs) ∙ sym (last-append fs g gs) ∙ e
@@ -79,7 +79,7 @@ module _ (limit : ℕ) (fs : List Rec) (s : Rec) (unended : All (λ f. f .kind �
     same-payloads : (places fewer : Places) (rs gs : List Rec) → Found limit with-it places rs → rs ≡ fs ++ s ∷ gs → Found limit without fewer (fs ++ gs) → parts with-it places ≡ map (shifted (length fs)) (parts without fewer)
     same-payloads places fewer rs gs p is q = p .same-parts ∙ ap numbered is ∙ numbers-shift fs s gs high ∙ ap (map (shifted (length fs))) (sym (q .same-parts))
 
-    taken-out : (places : Places) → walked limit with-it ≡ Ok places → (fewer : Places) × (walked limit without ≡ Ok fewer) × (parts with-it places ≡ map (shifted (length fs)) (parts without fewer))
+    pub taken-out : (places : Places) → walked limit with-it ≡ Ok places → (fewer : Places) × (walked limit without ≡ Ok fewer) × (parts with-it places ≡ map (shifted (length fs)) (parts without fewer))
     taken-out places e =
         let all = all-append (λ b. b < 256) (laid fs) (one ++ back) front-bytes (all-append (λ b. b < 256) one back (record-bytes s fine) bytes) in
         let d = done-found limit with-it places all e in
@@ -91,13 +91,13 @@ module _ (limit : ℕ) (fs : List Rec) (s : Rec) (unended : All (λ f. f .kind �
         let w = file-done limit without (fs ++ h .0) (record {
           joins = ap (λ l. laid fs ++ l) (h .2) ∙ sym (laid-append fs (h .0));
           fine = all-append Fine fs (h .0) ff (h .3);
-          order = sym (same-kinds (h .0)) ∙ ap kinds (sym is) ∙ f .order;
+          order = sym (kinds-without fs s (h .0) high) ∙ ap kinds (sym is) ∙ f .order;
           last = last-without (h .0) (ap lastKind (sym is) ∙ f .last);
           short = small-without;
         }) in
         (w .0, w .1, same-payloads places (w .0) (d .0) (h .0) (d .1) is (w .2))
 
-    put-in : (fewer : Places) → walked limit without ≡ Ok fewer → (places : Places) × (walked limit with-it ≡ Ok places) × (parts with-it places ≡ map (shifted (length fs)) (parts without fewer))
+    pub put-in : (fewer : Places) → walked limit without ≡ Ok fewer → (places : Places) × (walked limit with-it ≡ Ok places) × (parts with-it places ≡ map (shifted (length fs)) (parts without fewer))
     put-in fewer e =
         let d = done-found limit without fewer (all-append (λ b. b < 256) (laid fs) back front-bytes bytes) e in
         let f = d .1 .is-file in
@@ -105,14 +105,8 @@ module _ (limit : ℕ) (fs : List Rec) (s : Rec) (unended : All (λ f. f .kind �
         let w = file-done limit with-it (fs ++ s ∷ g .0) (record {
           joins = ap (λ l. laid fs ++ (one ++ l)) (g .2) ∙ sym (laid-append fs (s ∷ g .0));
           fine = all-append Fine fs (s ∷ g .0) ff (fine, g .3);
-          order = same-kinds (g .0) ∙ ap kinds (sym (g .1)) ∙ f .order;
+          order = kinds-without fs s (g .0) high ∙ ap kinds (sym (g .1)) ∙ f .order;
           last = last-with (g .0) (ap lastKind (sym (g .1)) ∙ f .last);
           short = small;
         }) in
         (w .0, w .1, same-payloads (w .0) fewer (fs ++ s ∷ g .0) (g .0) (w .2) refl (subst (Found limit without fewer) (g .1) (d .1)))
-
-pub skips-change-nothing : Skips-change-nothing
-skips-change-nothing limit fs s back ff unended fine high bytes small = record {
-  taken-out = taken-out limit fs s unended ff fine high back bytes small;
-  put-in = put-in limit fs s unended ff fine high back bytes small;
-}

@@ -18,11 +18,12 @@ use Rattle.records.specs.declared.walking.Cursor.{Cursor}
 use Rattle.records.specs.declared.walking.Turn.the-variants.{More, Done}
 use Rattle.records.specs.Format.{Bytes, headerOf, recordOf}
 use Rattle.records.specs.Orders.{following}
-use Rattle.records.specs.Walk.{wholeOf, placeOf, noted, past, placed, turn, walkedFrom, begin, walked}
+use Rattle.records.specs.Walk.{wholeOf, placeOf, noted, past, placed, turn, begin, walked}
 use Rattle.records.specs.Files.{Rec, Fine, laid, kinds, lastKind, IsFile}
 use Rattle.records.specs.Layout.{Found, Layout}
 use Rattle.records.proofs.Headers.{kind-of, length-of, length-record, laid-bytes}
-use Rattle.records.proofs.Rows.{laid-front, one-way, length-laid, kinds-append, kinds-known, last-append, last-unended, last-kept, some-last}
+use Rattle.records.proofs.Rows.{length-laid, kinds-append, kinds-known, last-append, last-unended, last-kept, some-last}
+use Rattle.records.proofs.Meets.{laid-front, one-way}
 use Rattle.records.proofs.Ordering.{kindsFrom, is-end, first-awaited, answers-skipped, answers-known}
 use Rattle.records.proofs.Turns.{starts, turn-at}
 use Rattle.records.proofs.Trails.{Trail, stopped, trail}

@@ -2,11 +2,14 @@ pub mod Numbers
 pub mod Headers
 pub mod Turns
 pub mod Rows
+pub mod Meets
 pub mod Ordering
 pub mod Passing
 pub mod Trails
 pub mod Founds
 pub mod Layouts
+pub mod Tells
 pub mod Refusals
 pub mod Inserts
+pub mod Shifts
 pub mod Sifts

@@ -1,30 +1,29 @@
 -- A refused walk tells the first fault in file order.
-use mathlib.Core.Path.{_≡_, refl, sym, ap, subst, _∙_}
-use mathlib.Core.Logic.{_≢_, _⊎_, inl, inr, ⊎-elim}
-use mathlib.Core.List.{List, [], _∷_, _++_}
-use Prim.Native.Nat.{ℕ, _+_, _-_, _≤_, _<_}
+use mathlib.Core.Path.{_≡_, sym, ap, subst, _∙_}
+use mathlib.Core.Logic.{_⊎_, inl, inr, ⊎-elim}
+use mathlib.Core.List.{List, _∷_, _++_}
+use Prim.Native.Nat.{ℕ, _+_, _≤_, _<_}
 use native.Mathlib.Omega.{arith}
 use lib.ListN.{length, drop}
 use Rattle.std.proofs.shelf.Lists.{append-cancel-left, nil-from-length}
 use Rattle.std.proofs.shelf.Tests.{cases-lt, cases-eq}
 use Rattle.std.proofs.shelf.Ways.{tells}
 use Rattle.std.specs.declared.result.Result.{Result}
-use Rattle.std.specs.declared.result.Result.the-variants.{Ok, Err}
+use Rattle.std.specs.declared.result.Result.the-variants.{Err}
 use Rattle.faults.specs.declared.record.RecordFault.{RecordFault}
 use Rattle.faults.specs.declared.record.RecordFault.the-variants.{Size, Cut, Check, Kind, Order, Ending}
-use Rattle.records.specs.declared.sequence.Next.{Next}
-use Rattle.records.specs.declared.sequence.Next.the-variants.{End}
 use Rattle.records.specs.declared.payloads.Places.{Places}
 use Rattle.records.specs.declared.walking.Cursor.{Cursor}
-use Rattle.records.specs.Format.{Bytes, headerOf, checkOf}
+use Rattle.records.specs.Format.{Bytes, headerOf}
 use Rattle.records.specs.Orders.{awaited}
-use Rattle.records.specs.Walk.{wholeOf, payloadOf, turn, begin, walked}
+use Rattle.records.specs.Walk.{wholeOf, turn, begin, walked}
 use Rattle.records.specs.Files.{Rec, kinds, inOrder}
 use Rattle.records.specs.Stops.{Stands, CutShort, CheckWrong, NoKind, Reason, FirstFault, WrongSize, Refused, Refusal}
 use Rattle.records.proofs.Ordering.{kindsFrom, is-end, first-awaited}
 use Rattle.records.proofs.Turns.{starts, wrong-size}
 use Rattle.records.proofs.Passing.{Passed}
 use Rattle.records.proofs.Trails.{Trail, trail}
+use Rattle.records.proofs.Tells.{first-told}
 
 -- what a turn that was refused tells
 no-size : (c : Cursor) (bs : List ℕ) → turn c bs ≡ Err Size → ⊥
@@ -88,12 +87,24 @@ first-fault file f t = record {
 size-cases : (limit : ℕ) (file : List ℕ) → WrongSize limit file ⊎ ((0 < length file) × (length file ≤ limit))
 size-cases limit file = ⊎-elim (λ none. inl (inl (omega arith))) (λ some. ⊎-elim (λ long. inl (inr long)) (λ fits. inr (some, fits)) (cases-lt limit (length file))) (cases-lt (length file) 1)
 
-pub refusal : (limit : ℕ) (file : List ℕ) (r : Result Places RecordFault) → r ≡ walked limit file → Bytes file → Refusal limit file r
-refusal limit file r is all f e =
+walked-trail : (limit : ℕ) (file : List ℕ) → Bytes file → (0 < length file) × (length file ≤ limit) → Trail file begin (walked limit file)
+walked-trail limit file all right = subst (Trail file begin) (starts limit file (right .0) (right .1)) (trail file all (length file + 1) begin (omega arith))
+
+pub refused : (limit : ℕ) (file : List ℕ) (f : RecordFault) → Bytes file → walked limit file ≡ Err f → Refused limit file f
+refused limit file f all e =
     ⊎-elim
     (λ wrong. inl ((let h = wrong-size limit file wrong in cc), wrong))
     (λ right.
-    let started = starts limit file (right .0) (right .1) ∙ sym is ∙ e in
     let fits : WrongSize limit file → ⊥ = λ wrong. ⊎-elim (λ none. omega (arith, right .0)) (λ long. omega (arith, right .1)) wrong in
-    inr (fits, first-fault file f (subst (Trail file begin) started (trail file all (length file + 1) begin (omega arith)))))
+    inr (fits, first-fault file f (subst (Trail file begin) e (walked-trail limit file all right))))
     (size-cases limit file)
+
+pub told : (limit : ℕ) (file : List ℕ) (f : RecordFault) → Bytes file → Refused limit file f → walked limit file ≡ Err f
+told limit file f all (inl (size, wrong)) = wrong-size limit file wrong ∙ ap (λ g. Err g) (sym size)
+told limit file f all (inr (fits, first)) = ⊎-elim (λ wrong. absurd (fits wrong)) (λ right. first-told file f first (walked limit file) (walked-trail limit file all right)) (size-cases limit file)
+
+pub refusal : (limit : ℕ) (file : List ℕ) (r : Result Places RecordFault) → r ≡ walked limit file → Bytes file → Refusal limit file r
+refusal limit file r is all = record {
+  sound = λ f e. refused limit file f all (sym is ∙ e);
+  complete = λ f h. is ∙ told limit file f all h;
+}

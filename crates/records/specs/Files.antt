@@ -1,5 +1,5 @@
 -- A file is records laid behind each other; without the skippable ones their kinds are 2, 3, 4, 5, 6, 1, and the last is 1.
-use Prim.Native.Nat.{ℕ, zero, suc, _+_, _^_, _<_, _≤_}
+use Prim.Native.Nat.{ℕ, zero, suc, _^_, _<_, _≤_}
 use mathlib.Core.Path.{_≡_}
 use mathlib.Core.Bool.{cond, not}
 use mathlib.Core.List.{List, [], _∷_, _++_, map}

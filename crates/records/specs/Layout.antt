@@ -21,7 +21,7 @@ numberedFrom n (r ∷ rs) = cond (skippable (r .kind)) (numberedFrom (n + 1) rs)
 abbrev pub numbered : List Rec → List (ℕ × List ℕ)
 numbered rs = numberedFrom 0 rs
 
--- the numbers and payloads that places give
+-- the places in file order
 abbrev pub listed : Places → List Place
 listed p = p .head ∷ p .rules ∷ p .map ∷ p .field ∷ p .book ∷ p .end ∷ []
 
@@ -29,6 +29,7 @@ listed p = p .head ∷ p .rules ∷ p .map ∷ p .field ∷ p .book ∷ p .end �
 abbrev pub payloadAt : List ℕ → Place → List ℕ
 payloadAt file p = take (p .length) (drop (p .start) file)
 
+-- the numbers and payloads that places give
 abbrev pub part : List ℕ → Place → ℕ × List ℕ
 part file p = (p .«record», payloadAt file p)
 

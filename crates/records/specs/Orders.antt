@@ -1,7 +1,6 @@
 -- The known kinds stand once each in the order 2, 3, 4, 5, 6, 1; kinds 128 to 255 may stand anywhere before the end.
 use Prim.Native.Nat.{ℕ}
-use mathlib.Core.Bool.{Bool, true, false, cond}
-use mathlib.Core.List.{List, [], _∷_}
+use mathlib.Core.Bool.{Bool, false, cond}
 use lib.Dec.{leb, eqb}
 use Rattle.std.specs.declared.result.Result.{Result}
 use Rattle.std.specs.declared.result.Result.the-variants.{Ok, Err}

@@ -23,6 +23,7 @@ pub record Stands (bs : List ℕ) : Type 0 where
 abbrev pub CutShort : List ℕ → Type 0
 CutShort bs = (0 < length bs) × (length bs < wholeOf bs)
 
+-- the record is whole, and its check does not fit
 abbrev pub CheckWrong : List ℕ → Type 0
 CheckWrong bs = (wholeOf bs ≤ length bs) × (checkOf (payloadOf bs) ≢ headerOf bs .check)
 
@@ -47,6 +48,7 @@ Reason rs bs (Kind n) = (n ≡ length rs) × NoKind bs
 Reason rs bs (Order n) = (n ≡ length rs) × NotNext rs bs
 Reason rs bs (Ending n) = ((n ≡ length rs) × (bs ≡ [])) ⊎ ((n ≡ length rs + 1) × NotLast rs bs)
 
+-- records in order stand before the bytes at which the fault was found
 pub record FirstFault (file : List ℕ) (f : RecordFault) : Type 0 where
   pub before : List Rec
   pub here : List ℕ
@@ -56,6 +58,7 @@ pub record FirstFault (file : List ℕ) (f : RecordFault) : Type 0 where
   pub order : (ks : List ℕ) × (kinds before ++ ks ≡ inOrder)
   pub reason : Reason before here f
 
+-- the file is empty or too long
 abbrev pub WrongSize : ℕ → List ℕ → Type 0
 WrongSize limit file = (length file ≡ 0) ⊎ (limit < length file)
 
@@ -63,5 +66,7 @@ WrongSize limit file = (length file ≡ 0) ⊎ (limit < length file)
 abbrev pub Refused : ℕ → List ℕ → RecordFault → Type 0
 Refused limit file f = ((f ≡ Size) × WrongSize limit file) ⊎ ((WrongSize limit file → ⊥) × FirstFault file f)
 
-abbrev pub Refusal : ℕ → List ℕ → Result Places RecordFault → Type 0
-Refusal limit file r = (f : RecordFault) → r ≡ Err f → Refused limit file f
+-- the walk is refused with a fault exactly if it is the first one
+pub record Refusal (limit : ℕ) (file : List ℕ) (r : Result Places RecordFault) : Type 0 where
+  pub sound : (f : RecordFault) → r ≡ Err f → Refused limit file f
+  pub complete : (f : RecordFault) → Refused limit file f → r ≡ Err f

@@ -40,6 +40,7 @@ placeAt c n = record { «record» = c .count; start = c .at + 8; length = n }
 abbrev pub placeOf : Cursor → List ℕ → Place
 placeOf c bs = placeAt c (headerOf bs .length)
 
+-- the place is noted under the record's kind
 abbrev pub noted : Places → ℕ → Place → Places
 noted p k x = record {
   head = cond (eqb k 2) x (p .head);
@@ -63,6 +64,7 @@ taken c bs places = cond (eqb (headerOf bs .kind) 1)
     (cond (eqb (length bs) (wholeOf bs)) (Ok (Done places)) (Err (Ending (c .count + 1))))
     (Ok (More (past c bs places)))
 
+-- a whole record that fits its check, by what the order answers to its kind
 abbrev pub placed : Cursor → List ℕ → Result Step OrderFault → Result Turn RecordFault
 placed c bs (Err Unknown) = Err (Kind (c .count))
 placed c bs (Err NotNext) = Err (Order (c .count))
@@ -76,6 +78,7 @@ turn c bs = cond (eqb (length bs) 0) (Err (Ending (c .count)))
     (cond (ltb (length bs) (wholeOf bs)) (Err (Cut (c .count)))
     (cond (eqb (checkOf (payloadOf bs)) (headerOf bs .check)) (placed c bs (answer (c .order .next) (headerOf bs .kind))) (Err (Check (c .count))))))
 
+-- a turn ends the walk, or the walk goes on behind the record
 abbrev pub goesOn : (Cursor → Result Places RecordFault) → Result Turn RecordFault → Result Places RecordFault
 goesOn next (Err e) = Err e
 goesOn next (Ok (Done places)) = Ok places
@@ -86,6 +89,7 @@ abbrev pub walkedFrom : List ℕ → ℕ → Cursor → Result Places RecordFaul
 walkedFrom file zero c = Err Size
 walkedFrom file (suc n) c = goesOn (walkedFrom file n) (turn c (drop (c .at) file))
 
+-- what is noted before the first record
 abbrev pub nowhere : Place
 nowhere = record { «record» = 0; start = 0; length = 0 }
 

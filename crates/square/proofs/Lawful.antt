@@ -6,16 +6,16 @@ use native.Mathlib.Omega.{arith}
 use lib.IntN.{natAbs}
 use Rattle.std.proofs.shelf.Ways.{tells}
 use Rattle.lattice.specs.Vectors.{negated, still}
-use Rattle.lattice.specs.Grids.{Lawful}
+use Rattle.lattice.specs.Grids.{Lawful, cellAt}
 use Rattle.lattice.proofs.Rings.{onward-in, backward-in, back-on, on-back}
 use Rattle.gas.specs.Laws.{GasLaws}
-use Rattle.gas.proofs.Moves.{Moves, moves-in, moves-back, moves-channel-beyond, moves-cell-beyond}
+use Rattle.gas.proofs.Moves.{Moves, moves-from, moves-in, moves-back, moves-channel-beyond, moves-cell-beyond}
 use Rattle.gas.proofs.Tables.{good-sound}
 use Rattle.square.specs.Square.{square, heading, across, columnBy, rowBy}
 use Rattle.square.proofs.House.{house-good}
 
 -- what holds of channels 0 to 3 holds below 4
-below-four : (P : ℕ → Type 0) → P 0 → P 1 → P 2 → P 3 → (q : ℕ) → q < 4 → P q
+pub below-four : (P : ℕ → Type 0) → P 0 → P 1 → P 2 → P 3 → (q : ℕ) → q < 4 → P q
 below-four P a b c d zero h = a
 below-four P a b c d (suc zero) h = b
 below-four P a b c d (suc (suc zero)) h = c
@@ -37,6 +37,10 @@ moves = record {
   row-back = λ w h q r grid below inR.
       below-four (λ q. rowBy h (across q) (rowBy h q r) ≡ r) refl (back-on h r inR) refl (on-back h r inR) q below;
 }
+
+-- what comes by a channel comes from the cell that lies the opposite way
+pub square-comes : (w h q c r : ℕ) → q < 4 → c < w → r < h → square .neighbour w h (across q) (cellAt w c r) ≡ cellAt w (columnBy w (across q) c r) (rowBy h (across q) r)
+square-comes w h q c r below inC inR = moves-from 4 across columnBy rowBy moves w h (across q) c r (across-in q below) inC inR
 
 heading-beyond : (q : ℕ) → 4 ≤ q → heading q ≡ still
 heading-beyond q h = grind (arith, tells)

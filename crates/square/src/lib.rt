@@ -1,4 +1,5 @@
 // The square gas: four channels, east, north, west and south.
+mod streaming;
 mod table;
 
 ghost use mathlib.Core.Path.{_≡_};
@@ -7,6 +8,8 @@ use gas::Gas;
 use gas::TableFault;
 use lattice::Grid;
 use lattice::Vector;
+use lattice::rows_around;
+use streaming::stream_columns;
 pub use table::SquareGas;
 
 /// Under each twist 5 and 10 become each other; the rest stay.
@@ -132,5 +135,13 @@ pub impl Gas for SquareGas as SquareGasRules {
 
     fn house(&mut self) {
         self.entries = HOUSE;
+    }
+
+    fn stream_row(&self, grid: Grid, row: usize, from: &[u8], to: &mut [u8]) {
+        let width = grid.width() as usize;
+        if row >= grid.height() as usize || from.len() < grid.cells() || to.len() < width {
+            return;
+        }
+        stream_columns(width, rows_around(grid, row), from, to);
     }
 }

@@ -1,11 +1,11 @@
 use borrow.Author.Needs.{needs}
-use mathlib.Core.Path.{_≡_, refl}
+use mathlib.Core.Path.{_≡_}
 use mathlib.Core.List.{List, [], _∷_}
 use Prim.Native.Nat.{ℕ, _+_, _*_, _≤_}
 use native.Mathlib.Omega.{arith}
-use lib.ListN.{length, getD, take, drop}
+use lib.ListN.{length, getD}
 use Rattle.std.proofs.shelf.Lists.{take-rest}
-use Rattle.records.specs.Format.{number, headerOf}
+use Rattle.records.specs.Format.{headerOf}
 use Rattle.records.proofs.format.read_header.Needs as need
 
 -- a header's two numbers, byte by byte

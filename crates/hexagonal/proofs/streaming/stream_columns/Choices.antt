@@ -1,0 +1,13 @@
+-- The places below the column hold what was gathered, and those from it on are as they were.
+use mathlib.Core.Path.{_≡_}
+use Prim.Native.Nat.{ℕ, _<_, _≤_}
+use lib.Bits.{bitAnd}
+use lib.ListN.{getD}
+use Rattle.lattice.specs.Sources.{gathered}
+use Rattle.hexagonal.specs.Sources.{columnsAround, sources}
+use Rattle.hexagonal.proofs.streaming.stream_columns.Given as given
+
+abbrev pub Inv-loop-column : given.InvT-loop-column
+Inv-loop-column l =
+    ((c : ℕ) → c < l .column → getD (l .to) c 0 ≡ bitAnd (gathered 7 (l .from) (sources (l .rows) (columnsAround (l .width) (l .odd) c))) (l .mask))
+    × ((k : ℕ) → l .column ≤ k → getD (l .to) k 0 ≡ getD (l .entry .to) k 0)

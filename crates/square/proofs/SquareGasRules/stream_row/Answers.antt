@@ -1,0 +1,18 @@
+-- What was gathered in each column is what arrives there.
+use mathlib.Core.Path.{_∙_}
+use native.Mathlib.Omega.{arith}
+use borrow.Author.Needs.{needs}
+use Rattle.square.proofs.Gathers.{computed-arrives}
+use Rattle.square.proofs.SquareGasRules.stream_row.Needs as need
+
+pub returns : need.returns
+returns c =
+    let g = c .args .grid in
+    let wide = c .width-width .ensures .value in
+    record {
+      row = λ fits k l.
+          c .stream-columns .ensures .row k (omega arith)
+          ∙ computed-arrives (g .width) (g .height) k (c .args .row) (c .width-width .result) (c .rows-around .result) (c .args .from .now) l (omega (arith, c .height .ensures .value)) wide (c .rows-around .ensures .rows);
+      rest = λ fits k l. c .stream-columns .ensures .rest k (omega arith);
+      unfit = search needs;
+    }
