@@ -1,0 +1,12 @@
+pub mod Lists
+pub mod Marks
+pub mod Outcomes
+pub mod Weights
+pub mod Walls
+pub mod Flow
+pub mod Momenta
+pub mod Book
+pub mod Pushes
+pub mod Decide
+pub mod Keeps
+pub mod Whole

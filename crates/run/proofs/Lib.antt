@@ -1,0 +1,3 @@
+pub mod Clears
+pub mod NoFaults
+pub mod Sound

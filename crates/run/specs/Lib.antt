@@ -1,0 +1,4 @@
+pub mod View
+pub mod Grounds
+pub mod Outcomes
+pub mod Calls

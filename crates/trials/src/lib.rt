@@ -1,0 +1,4 @@
+// Calls of a run, tried on small grids.
+
+#[cfg(test)]
+mod calls;
