@@ -1,7 +1,6 @@
 -- The book has sixteen accounts: 1 to 15 are the obstacles', 16 is the fan's. A push changes one account alone.
 -- Each number of an account lies within 458,752 × step count of zero.
-use Rattle.std.specs.Prelude.{◌≡◌, ℕ, ◌+◌, ◌-◌, ◌*◌, ◌<◌, ◌≤◌, Bool, true, ◌&&◌, List, [], ◌∷◌, length, pos, ◌+ℤ◌, nat_le, slice_index_or, slice_set, unsigned_abs}
-use Rattle.std.specs.List.{AllByRecursion as All}
+use Rattle.std.specs.Prelude.{ℕ, ◌-◌, ◌*◌, Bool, true, ◌&&◌, List, [], ◌∷◌, pos, ◌+ℤ◌, nat_le, slice_index_or, slice_set, unsigned_abs}
 use Rattle.lattice.specs.declared.vector.Vector.{Vector}
 use Rattle.book.specs.declared.account.Account.{Account}
 

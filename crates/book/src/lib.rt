@@ -1,10 +1,12 @@
 // The book: what each obstacle and the fan took up.
+#![tactic(auto)]
+
 mod account;
 mod table;
 
 ghost use Rattle.std.specs.Prelude.{◌≡◌, ℕ, ◌≤◌, replicate, ◌+ℤ◌, FitsSigned};
 ghost use Rattle.std.specs.Int.{w64};
-ghost use Rattle.book.specs.Accounts.{none, grown, account_at, pushed, accounts as accountCount};
+ghost use Rattle.book.specs.Accounts.{none, grown, account_at, pushed, accounts as account_count};
 
 pub use account::Account;
 use lattice::Vector;
@@ -25,7 +27,7 @@ fn push(account: &mut Account, by: Vector)
 impl Book {
     /// A book of nothing.
     pub fn new() -> Book
-        ensures { result.accounts ≡ replicate accountCount none }
+        ensures { result.accounts ≡ replicate account_count none }
     {
         let nothing = Account {
             along: 0,

@@ -1,23 +1,18 @@
 -- A done `open` and a done `blank` leave storable scenes, so the law holds from there.
-use Rattle.std.proofs.Common.{◌≡◌, ℕ, ◌*◌, ◌^◌, ◌<◌, ◌≤◌, Bool, true, ◌&&◌, List, length, get_or, take, replicate, nat_abs, Some, None, Ok, Err, Option, Result, sym, refl, ap, ◌∙◌, subst, arith, pow_pos}
+use Rattle.std.proofs.Common.{◌≡◌, ℕ, ◌*◌, ◌<◌, ◌≤◌, true, length, take, replicate, None, Ok, Err, Option, Result, sym, refl, ap, ◌∙◌, subst, arith, pow_pos}
 use Rattle.std.proofs.lemmas.List.{length-replicate, get_or-replicate}
 use Rattle.lattice.specs.declared.fault.GridFault.{GridFault}
 use Rattle.lattice.specs.declared.fault.GridFault.TheVariants.{Width, Height, Area}
-use Rattle.lattice.specs.Grids.{Lawful, judged}
+use Rattle.lattice.specs.Grids.{Lawful}
 use Rattle.gas.specs.Model.{GasModel, states}
 use Rattle.gas.specs.Laws.{GasLaws}
 use Rattle.twist.specs.Model.{TwistModel, TwistLaws}
 use Rattle.book.specs.declared.account.Account.{Account}
 use Rattle.book.specs.Accounts.{accounts, none, account_fits}
 use Rattle.dynamics.specs.Roles.{highest_map_byte}
-use Rattle.dynamics.specs.Tunnels.{RunState, Tunnel, cells}
-use Rattle.dynamics.specs.Soundness.{SoundTunnel}
+use Rattle.dynamics.specs.Tunnels.{Tunnel, cells}
 use Rattle.step.specs.Scenes.{scene_of}
 use Rattle.step.specs.Results.{over}
-use Rattle.records.specs.Format.{Bytes}
-use Rattle.records.specs.Files.{Rec, less}
-use Rattle.records.specs.Layout.{numbered}
-use Rattle.job.specs.Jobs.{tunnel_in}
 use Rattle.job.proofs.Keeping.{judged_lawful}
 use Rattle.encode.specs.Encodings.{file_of, file_length}
 use Rattle.codec.specs.Storable.{Storable}
@@ -26,11 +21,10 @@ use Rattle.faults.specs.declared.call.CallFault.{CallFault}
 use Rattle.calls.specs.declared.call.Call.TheVariants.{Mark}
 use Rattle.calls.specs.Grounds.{grid_fault, blank_fault}
 use Rattle.calls.specs.Outcomes.{leaves}
-use Rattle.calls.specs.Calls.{blank_run, Blanked, Opened}
-use Rattle.calls.specs.Files.{Suits, Says}
-use Rattle.calls.specs.Logs.{Scene, tunnel_of, marked, Holds}
-use Rattle.calls.specs.Plain.{ground}
-use Rattle.calls.specs.Law.{LogLaw, MarksBack, OpenBegins, BlankBegins}
+use Rattle.calls.specs.Calls.{blank_run}
+use Rattle.calls.specs.Logs.{Scene, marked}
+use Rattle.calls.specs.Plain.{ground_of}
+use Rattle.calls.specs.Law.{OpenBegins, BlankBegins}
 use Rattle.calls.proofs.NoFaults.{none-parts, reply-none}
 use Rattle.calls.proofs.Openings.{opens}
 use Rattle.calls.proofs.Unfaulted.{take-front}
@@ -49,7 +43,7 @@ open_begins s gas twist file map₁ field₁ bytes s' map' field' o =
     let good : Storable (scene_of s' map' field') = subst Storable (sym scene) back.0 in (
       lawful x good,
       λ m f n out out' z h.
-          mark_file (scene_of s' map' field') m f (file_length s'.gas (cells s')) n (take n out') (ground (scene_of s' map' field') (Mark m f (length out))) (follows (marked m f out out' (Ok n)) x z good h).seen
+          mark_file (scene_of s' map' field') m f (file_length s'.gas (cells s')) n (take n out') (ground_of (scene_of s' map' field') (Mark m f (length out))) (follows (marked m f out out' (Ok n)) x z good h).seen
           ∙ ap file_of scene ∙ back.1,
     )
 

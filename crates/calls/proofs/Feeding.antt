@@ -1,13 +1,12 @@
 -- The plain tunnel stays storable, and keeps its particles and its balance.
-use Rattle.std.proofs.Common.{◌≡◌, ℕ, ◌+◌, ◌*◌, ◌<◌, ◌≤◌, eqb, ltb, leb, ◌≢◌, List, length, get_or, set, Some, None, Option, sym, refl, ap, ◌∙◌, subst, inl, inr, arith, length-set, get_or-set_other, get_or-set_same}
+use Rattle.std.proofs.Common.{◌≡◌, ℕ, ◌+◌, ◌≤◌, eqb, ltb, get_or, set, Some, None, Option, sym, refl, ap, ◌∙◌, subst, inl, inr, arith, length-set, get_or-set_other, get_or-set_same}
 use Rattle.std.proofs.lemmas.Bool.{cases_eq, ltb-false, leb-false}
 use Rattle.lattice.specs.Grids.{cell_at}
 use Rattle.lattice.proofs.Cells.{cell_below}
 use Rattle.faults.specs.declared.call.CallFault.{CallFault}
 use Rattle.faults.specs.declared.call.CallFault.TheVariants.{ShortMap, ShortField, ShortSpare, Argument, TooManySteps}
 use Rattle.dynamics.specs.Roles.{highest_map_byte}
-use Rattle.dynamics.specs.Tunnels.{RunState, Tunnel, cells}
-use Rattle.dynamics.specs.Soundness.{SoundRun, SoundTunnel}
+use Rattle.dynamics.specs.Tunnels.{Tunnel}
 use Rattle.dynamics.specs.Balance.{particles_of, balance_of}
 use Rattle.dynamics.specs.Pushes.{after_steps}
 use Rattle.dynamics.proofs.Whole.{steps_keep}
@@ -17,7 +16,7 @@ use Rattle.calls.specs.declared.call.Call.{Call}
 use Rattle.calls.specs.declared.call.Call.TheVariants.{Advance, Paint, Fan, Report, Account, Mark}
 use Rattle.calls.specs.Grounds.{or_then, fault_if, most_steps, step_limit, longest_period}
 use Rattle.calls.specs.Outcomes.{leaves}
-use Rattle.calls.specs.Plain.{cells_of, ground, repainted, refanned, moved, fed_one}
+use Rattle.calls.specs.Plain.{cells_of, ground_of, repainted, refanned, moved, fed_one}
 use Rattle.calls.proofs.NoFaults.{none-parts, not_if}
 
 -- what the plain tunnel keeps at one call
@@ -30,7 +29,7 @@ same_feeds : (t : Tunnel) → Storable t → Feeds t t
 same_feeds t s = record { storable = s; particles = refl; balance = refl }
 
 -- steps
-advance_feeds : (k m f n : ℕ) (t : Tunnel) → Storable t → ground t (Advance k m f n) ≡ None → Feeds t (after_steps k t)
+advance_feeds : (k m f n : ℕ) (t : Tunnel) → Storable t → ground_of t (Advance k m f n) ≡ None → Feeds t (after_steps k t)
 advance_feeds k m f n t s none =
     let last = fault_if (ltb step_limit (t.run.steps + k)) TooManySteps in
     let most = fault_if (ltb most_steps k) (Argument 1) in
@@ -48,7 +47,7 @@ advance_feeds k m f n t s none =
     }
 
 -- a byte of the map
-paint_feeds : (column row kind m : ℕ) (t : Tunnel) → Storable t → ground t (Paint column row kind m) ≡ None → Feeds t (repainted t (cell_at t.run.width column row) kind)
+paint_feeds : (column row kind m : ℕ) (t : Tunnel) → Storable t → ground_of t (Paint column row kind m) ≡ None → Feeds t (repainted t (cell_at t.run.width column row) kind)
 paint_feeds column row kind m t s none =
     let a = none-parts _ _ none in
     let b = none-parts _ _ a.1 in
@@ -76,7 +75,7 @@ paint_feeds column row kind m t s none =
     }
 
 -- the period
-fan_feeds : (period : ℕ) (t : Tunnel) → Storable t → ground t (Fan period) ≡ None → Feeds t (refanned t period)
+fan_feeds : (period : ℕ) (t : Tunnel) → Storable t → ground_of t (Fan period) ≡ None → Feeds t (refanned t period)
 fan_feeds period t s none = record {
   storable = record {
     sound = record {
@@ -102,7 +101,7 @@ fan_feeds period t s none = record {
 }
 
 -- a call that is not refused
-pub moved_feeds : (c : Call) (t : Tunnel) → Storable t → ground t c ≡ None → Feeds t (moved c t)
+pub moved_feeds : (c : Call) (t : Tunnel) → Storable t → ground_of t c ≡ None → Feeds t (moved c t)
 moved_feeds (Advance k m f n) t s none = advance_feeds k m f n t s none
 moved_feeds (Paint column row kind m) t s none = paint_feeds column row kind m t s none
 moved_feeds (Fan period) t s none = fan_feeds period t s none
@@ -110,10 +109,10 @@ moved_feeds (Report b f n) t s none = same_feeds t s
 moved_feeds (Account n) t s none = same_feeds t s
 moved_feeds (Mark m f n) t s none = same_feeds t s
 
-by_ground : (c : Call) (t : Tunnel) → Storable t → (o : Option CallFault) → ground t c ≡ o → Feeds t (leaves o t (moved c t))
+by_ground : (c : Call) (t : Tunnel) → Storable t → (o : Option CallFault) → ground_of t c ≡ o → Feeds t (leaves o t (moved c t))
 by_ground c t s None e = moved_feeds c t s e
 by_ground c t s (Some f) e = same_feeds t s
 
 -- any call
 pub feeds : (c : Call) (t : Tunnel) → Storable t → Feeds t (fed_one c t)
-feeds c t s = by_ground c t s (ground t c) refl
+feeds c t s = by_ground c t s (ground_of t c) refl

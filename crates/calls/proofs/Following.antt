@@ -1,14 +1,13 @@
 -- Each line of a log leaves the tunnel that the plain tunnel has, and shows what that would show.
-use Rattle.std.proofs.Common.{◌≡◌, ℕ, ◌+◌, ◌*◌, ◌<◌, ◌≤◌, Bool, not, eqb, ltb, leb, List, [], ◌++◌, length, take, drop, set, Some, None, Ok, Err, Option, Result, sym, refl, ap, ◌∙◌, subst, arith, length-set, take-append-drop, length-take, take_all, take-take}
+use Rattle.std.proofs.Common.{◌≡◌, ℕ, ◌+◌, ◌*◌, ◌≤◌, not, eqb, ltb, leb, List, [], ◌++◌, length, take, drop, set, Some, None, Ok, Err, Option, Result, sym, refl, ap, ◌∙◌, arith, length-set, take-append-drop, length-take, take-take}
 use lib.Seq.{take-append-le, take-set-lt}
 use Rattle.std.proofs.lemmas.List.{take_at}
-use Rattle.std.proofs.lemmas.Bool.{ltb-false, leb-false}
+use Rattle.std.proofs.lemmas.Bool.{leb-false}
 use Rattle.lattice.specs.Grids.{cell_at}
 use Rattle.lattice.proofs.Cells.{cell_below}
 use Rattle.book.specs.declared.account.Account.{Account}
 use Rattle.dynamics.specs.Roles.{highest_map_byte}
-use Rattle.dynamics.specs.Tunnels.{RunState, Tunnel, cells}
-use Rattle.dynamics.specs.Soundness.{SoundTunnel}
+use Rattle.dynamics.specs.Tunnels.{Tunnel, cells}
 use Rattle.dynamics.specs.Pushes.{after_steps}
 use Rattle.dynamics.proofs.Whole.{steps_keep}
 use Rattle.step.specs.Scenes.{scene_of}
@@ -20,13 +19,12 @@ use Rattle.codec.specs.Storable.{Storable}
 use Rattle.report.specs.Reports.{snapshot, report_text}
 use Rattle.faults.specs.declared.call.CallFault.{CallFault}
 use Rattle.faults.specs.declared.call.CallFault.TheVariants.{ShortMap, ShortField, ShortSpare, Argument, TooManySteps, ShortOutput}
-use Rattle.calls.specs.declared.call.Call.{Call}
-use Rattle.calls.specs.declared.call.Call.TheVariants.{Advance, Paint, Fan, Report, Mark}
+use Rattle.calls.specs.declared.call.Call.TheVariants.{Advance, Paint, Report, Mark}
 use Rattle.calls.specs.Grounds.{or_then, fault_if, fan_fault, account_fault, advance_fault, paint_fault, patch_fits, report_fault, mark_fault, most_steps, step_limit}
 use Rattle.calls.specs.Outcomes.{reply, leaves}
 use Rattle.calls.specs.Calls.{with_period, Advanced, Painted, Fanned, Reported, Told, Marked}
-use Rattle.calls.specs.Logs.{Scene, tunnel_of, Line, advanced, painted, fanned, reported, told, marked, Holds, call_of, Seen, plainly, counted, written, account, front, seen_of}
-use Rattle.calls.specs.Plain.{cells_of, text_of, ground, repainted, refanned, moved, fed_one, shows}
+use Rattle.calls.specs.Logs.{Scene, tunnel_of, Line, advanced, painted, fanned, reported, told, marked, Holds, call_of, plainly, counted, written, account, front, seen_of}
+use Rattle.calls.specs.Plain.{text_of, ground_of, repainted, refanned, fed_one, shows}
 use Rattle.calls.proofs.NoFaults.{none-parts, not_if}
 use Rattle.calls.proofs.Handing.{handed_length, long_enough_none, map_room, field_room, map_handed, field_handed, scene_handed, put_back-front}
 
@@ -51,7 +49,7 @@ front_written (Some f) text out n e = refl
 module _ (x y : Scene) (good : Storable (tunnel_of x)) where
   -- advance
   module _ (k m f : ℕ) (spare spare' : List ℕ) (r : Result ℕ CallFault) (field' : List ℕ) (a : Advanced x.run k (take m x.map) (take f x.field) spare r y.run field' spare') (map_is : y.map ≡ x.map) (field_is : y.field ≡ field' ++ drop f x.field) where
-    advance_ground : advance_fault x.run k (take m x.map) (take f x.field) spare ≡ ground (tunnel_of x) (Advance k m f (length spare))
+    advance_ground : advance_fault x.run k (take m x.map) (take f x.field) spare ≡ ground_of (tunnel_of x) (Advance k m f (length spare))
     advance_ground = λ j.
         or_then (handed_length (cells x.run) m x.map ShortMap (map_room x.run x.map x.field good.sound) j)
         (or_then (handed_length (cells x.run) f x.field ShortField (field_room x.run x.map x.field good.sound) j)
@@ -62,7 +60,7 @@ module _ (x y : Scene) (good : Storable (tunnel_of x)) where
         (or_then (fault_if (ltb most_steps k) (Argument 1))
         (fault_if (ltb step_limit (x.run.steps + k)) TooManySteps)))))))
 
-    advance_by : (o : Option CallFault) → ground (tunnel_of x) (Advance k m f (length spare)) ≡ o → tunnel_of y ≡ leaves o (tunnel_of x) (after_steps k (tunnel_of x))
+    advance_by : (o : Option CallFault) → ground_of (tunnel_of x) (Advance k m f (length spare)) ≡ o → tunnel_of y ≡ leaves o (tunnel_of x) (after_steps k (tunnel_of x))
     advance_by (Some fault) e =
         let held = advance_ground ∙ e in
         let part = a.field_is ∙ left _ _ (take f x.field) (over (after_steps k (scene_of x.run (take m x.map) (take f x.field))).field (take f x.field)) held in
@@ -89,20 +87,20 @@ module _ (x y : Scene) (good : Storable (tunnel_of x)) where
 
     follows_advanced : Follows (advanced k m f spare spare' r) x y
     follows_advanced = record {
-      tunnel = advance_by (ground (tunnel_of x) (Advance k m f (length spare))) refl;
+      tunnel = advance_by (ground_of (tunnel_of x) (Advance k m f (length spare))) refl;
       seen = ap counted (a.answer ∙ ap (λ (o : Option CallFault). reply o (x.run.steps + k)) advance_ground);
     }
 
   -- paint
   module _ (column row kind m : ℕ) (r : Result (Unit {0}) CallFault) (map' : List ℕ) (a : Painted x.run column row kind (take m x.map) r y.run map') (map_is : y.map ≡ map' ++ drop m x.map) (field_is : y.field ≡ x.field) where
-    paint_ground : paint_fault x.run column row kind (take m x.map) ≡ ground (tunnel_of x) (Paint column row kind m)
+    paint_ground : paint_fault x.run column row kind (take m x.map) ≡ ground_of (tunnel_of x) (Paint column row kind m)
     paint_ground = λ j.
         or_then (handed_length (cells x.run) m x.map ShortMap (map_room x.run x.map x.field good.sound) j)
         (or_then (map_handed x.run m x.map x.field good.sound j)
         (or_then (fault_if (leb x.run.width column) (Argument 1))
         (or_then (fault_if (leb x.run.height row) (Argument 2)) (fault_if (ltb highest_map_byte kind) (Argument 3)))))
 
-    paint_by : (o : Option CallFault) → ground (tunnel_of x) (Paint column row kind m) ≡ o → tunnel_of y ≡ leaves o (tunnel_of x) (repainted (tunnel_of x) (cell_at x.run.width column row) kind)
+    paint_by : (o : Option CallFault) → ground_of (tunnel_of x) (Paint column row kind m) ≡ o → tunnel_of y ≡ leaves o (tunnel_of x) (repainted (tunnel_of x) (cell_at x.run.width column row) kind)
     paint_by (Some fault) e =
         let part = a.map_is ∙ left _ _ (take m x.map) (set (take m x.map) (cell_at x.run.width column row) kind) (paint_ground ∙ e) in
         same_tunnel x y a.run (map_is ∙ ap (λ (p : List ℕ). p ++ drop m x.map) part ∙ take-append-drop m x.map) field_is
@@ -125,7 +123,7 @@ module _ (x y : Scene) (good : Storable (tunnel_of x)) where
 
     follows_painted : Follows (painted column row kind m r) x y
     follows_painted = record {
-      tunnel = paint_by (ground (tunnel_of x) (Paint column row kind m)) refl;
+      tunnel = paint_by (ground_of (tunnel_of x) (Paint column row kind m)) refl;
       seen = ap plainly (a.answer ∙ ap (λ (o : Option CallFault). reply o tt) paint_ground);
     }
 
@@ -165,14 +163,14 @@ module _ (x y : Scene) (good : Storable (tunnel_of x)) where
     report_ground (Some fault) e = refl
     report_ground None e = λ j. or_then (fault_if (not (patch_fits x.run b)) (Argument 1)) (fault_if (ltb (length out) (length (text_handed (long_enough_none _ f ShortField e) j))) ShortOutput)
 
-    report_grounds : report_fault x.run b (take f x.field) out ≡ ground (tunnel_of x) (Report b f (length out))
+    report_grounds : report_fault x.run b (take f x.field) out ≡ ground_of (tunnel_of x) (Report b f (length out))
     report_grounds =
         (λ j. or_then (or_then (handed_length (cells x.run) f x.field ShortField (field_room x.run x.map x.field good.sound) j)
         (or_then (field_handed x.run f x.map x.field good.sound j) (fault_if (not (patch_fits x.run b)) (Argument 1))))
         (fault_if (ltb (length out) (length (report_text (snapshot x.run (take f x.field)) b))) ShortOutput))
         ∙ report_ground (fault_if (ltb f (cells x.run)) ShortField) refl
 
-    report_seen : (o : Option CallFault) → ground (tunnel_of x) (Report b f (length out)) ≡ o
+    report_seen : (o : Option CallFault) → ground_of (tunnel_of x) (Report b f (length out)) ≡ o
         → written r (front r out') ≡ written (reply o (length (text_of (tunnel_of x) b))) (leaves o [] (text_of (tunnel_of x) b))
     report_seen (Some fault) e =
         let is : r ≡ Err fault = a.answer ∙ ap (λ (o : Option CallFault). reply o (length (report_text (snapshot x.run (take f x.field)) b))) (report_grounds ∙ e) in
@@ -188,20 +186,20 @@ module _ (x y : Scene) (good : Storable (tunnel_of x)) where
 
     follows_reported : Follows (reported b f out out' r) x y
     follows_reported = record {
-      tunnel = still (ground (tunnel_of x) (Report b f (length out))) a.run map_is field_is;
-      seen = report_seen (ground (tunnel_of x) (Report b f (length out))) refl;
+      tunnel = still (ground_of (tunnel_of x) (Report b f (length out))) a.run map_is field_is;
+      seen = report_seen (ground_of (tunnel_of x) (Report b f (length out))) refl;
     }
 
   -- mark
   module _ (m f : ℕ) (out out' : List ℕ) (r : Result ℕ CallFault) (a : Marked x.run (take m x.map) (take f x.field) out r y.run out') (map_is : y.map ≡ x.map) (field_is : y.field ≡ x.field) where
-    mark_ground : mark_fault x.run (take m x.map) (take f x.field) out ≡ ground (tunnel_of x) (Mark m f (length out))
+    mark_ground : mark_fault x.run (take m x.map) (take f x.field) out ≡ ground_of (tunnel_of x) (Mark m f (length out))
     mark_ground = λ j.
         or_then (handed_length (cells x.run) m x.map ShortMap (map_room x.run x.map x.field good.sound) j)
         (or_then (handed_length (cells x.run) f x.field ShortField (field_room x.run x.map x.field good.sound) j)
         (or_then (map_handed x.run m x.map x.field good.sound j)
         (or_then (field_handed x.run f x.map x.field good.sound j) (fault_if (ltb (length out) (file_length x.run.gas (cells x.run))) ShortOutput))))
 
-    mark_seen : (o : Option CallFault) → ground (tunnel_of x) (Mark m f (length out)) ≡ o
+    mark_seen : (o : Option CallFault) → ground_of (tunnel_of x) (Mark m f (length out)) ≡ o
         → written r (front r out') ≡ written (reply o (file_length x.run.gas (cells x.run))) (leaves o [] (file_of (tunnel_of x)))
     mark_seen (Some fault) e =
         let is : r ≡ Err fault = a.answer ∙ ap (λ (o : Option CallFault). reply o (file_length x.run.gas (cells x.run))) (mark_ground ∙ e) in
@@ -219,8 +217,8 @@ module _ (x y : Scene) (good : Storable (tunnel_of x)) where
 
     follows_marked : Follows (marked m f out out' r) x y
     follows_marked = record {
-      tunnel = still (ground (tunnel_of x) (Mark m f (length out))) a.run map_is field_is;
-      seen = mark_seen (ground (tunnel_of x) (Mark m f (length out))) refl;
+      tunnel = still (ground_of (tunnel_of x) (Mark m f (length out))) a.run map_is field_is;
+      seen = mark_seen (ground_of (tunnel_of x) (Mark m f (length out))) refl;
     }
 
 -- every line

@@ -1,6 +1,5 @@
 -- A call that is handed the first bytes of map and field of a storable tunnel judges their lengths alone.
-use Rattle.std.proofs.Common.{◌≡◌, ℕ, ◌<◌, ◌≤◌, Bool, true, false, ltb, leb, List, ◌++◌, length, get_or, take, drop, Some, None, Option, sym, refl, ap, ◌∙◌, subst, inl, inr, append_assoc, arith, length-take, get_or-take, take-take}
-use lib.Seq.{take-append-le, take-set-lt}
+use Rattle.std.proofs.Common.{◌≡◌, ℕ, ◌<◌, ◌≤◌, Bool, ltb, leb, List, ◌++◌, length, get_or, take, None, sym, ap, ◌∙◌, subst, inl, inr, append_assoc, arith, length-take, get_or-take, take-take}
 use Rattle.std.proofs.lemmas.List.{get_or_past, take_at}
 use Rattle.std.proofs.lemmas.Bool.{cases_lt, le-ltb, lt-leb, ltb-false}
 use Rattle.std.proofs.lemmas.Bool.Decides.{nat_tests}
@@ -9,11 +8,11 @@ use Rattle.gas.specs.Model.{states}
 use Rattle.faults.specs.declared.call.CallFault.{CallFault}
 use Rattle.faults.specs.declared.call.CallFault.TheVariants.{MapByte, FieldByte}
 use Rattle.dynamics.specs.Roles.{highest_map_byte}
-use Rattle.dynamics.specs.Tunnels.{RunState, Tunnel, cells}
+use Rattle.dynamics.specs.Tunnels.{RunState, cells}
 use Rattle.dynamics.specs.Soundness.{SoundTunnel}
 use Rattle.step.specs.Scenes.{scene_of}
 use Rattle.step.proofs.Overlays.{take_long}
-use Rattle.calls.specs.Grounds.{or_then, fault_if, fault_at, map_fault, field_fault}
+use Rattle.calls.specs.Grounds.{fault_if, fault_at, map_fault, field_fault}
 use Rattle.calls.proofs.NoFaults.{not_if}
 
 -- the first m bytes of a buffer of n or more are too few just if m is below n

@@ -1,35 +1,32 @@
 -- The law over logs, from a storable scene: by induction over the lines, and for marks by the round trip of the file.
-use Rattle.std.proofs.Common.{◌≡◌, ℕ, ◌*◌, ◌≤◌, List, [], ◌∷◌, map, length, take, Some, None, Ok, Err, Option, Result, sym, refl, ap, ◌∙◌, subst, arith}
+use Rattle.std.proofs.Common.{◌≡◌, ℕ, ◌≤◌, List, [], ◌∷◌, map, length, take, Some, None, Ok, Option, Result, sym, refl, ap, ◌∙◌, subst, arith}
 use Rattle.gas.specs.Model.{GasModel}
 use Rattle.twist.specs.Model.{TwistModel}
 use Rattle.dynamics.specs.Tunnels.{RunState, Tunnel, cells}
 use Rattle.dynamics.specs.Balance.{particles_of, balance_of}
 use Rattle.step.specs.Scenes.{scene_of}
-use Rattle.step.specs.Results.{over}
 use Rattle.records.specs.Format.{Bytes}
-use Rattle.records.specs.Files.{Rec, laid, IsFile}
+use Rattle.records.specs.Files.{Rec}
 use Rattle.records.specs.Layout.{numbered}
-use Rattle.records.specs.Walk.{largest_file}
 use Rattle.records.proofs.Headers.{laid_bytes}
 use Rattle.job.specs.Jobs.{cells_in, bytes_at, run_in, tunnel_in}
 use Rattle.job.specs.Keeps.{Keeps}
 use Rattle.encode.specs.Encodings.{file_of, file_length, records_of}
 use Rattle.codec.specs.Storable.{Storable}
-use Rattle.codec.specs.Trips.{ReadsBack}
 use Rattle.codec.proofs.Tunnels.{written_reads_back}
 use Rattle.faults.specs.declared.call.CallFault.{CallFault}
 use Rattle.calls.specs.declared.call.Call.{Call}
 use Rattle.calls.specs.declared.call.Call.TheVariants.{Mark}
 use Rattle.calls.specs.Outcomes.{reply, leaves}
 use Rattle.calls.specs.Calls.{Opened}
-use Rattle.calls.specs.Files.{Suits, Says}
+use Rattle.calls.specs.Files.{Says}
 use Rattle.calls.specs.Logs.{Scene, tunnel_of, Line, marked, Holds, Log, call_of, calls_of, Seen, written, seen_of}
-use Rattle.calls.specs.Plain.{ground, fed_one, fed, shows}
+use Rattle.calls.specs.Plain.{ground_of, fed_one, fed, shows}
 use Rattle.calls.specs.Law.{growth, Kept, Alike, Reopens, LogLaw}
 use Rattle.calls.proofs.Openings.{opens}
 use Rattle.calls.proofs.Unfaulted.{take-front}
-use Rattle.calls.proofs.Feeding.{Feeds, feeds}
-use Rattle.calls.proofs.Following.{Follows, follows}
+use Rattle.calls.proofs.Feeding.{feeds}
+use Rattle.calls.proofs.Following.{follows}
 
 -- the scene after a line is storable again
 storable_after : (l : Line) (x y : Scene) → Storable (tunnel_of x) → Holds l x y → Storable (tunnel_of y)
@@ -127,7 +124,7 @@ reopened t good s map₂ field₂ gases twists map_room field_room r s' map' fie
 reopens : (m f n : ℕ) (out out' : List ℕ) (y z : Scene) → Storable (tunnel_of y) → Holds (marked m f out out' (Ok n)) y z → Reopens z (take n out')
 reopens m f n out out' y z good h =
     let line = follows (marked m f out out' (Ok n)) y z good h in
-    let file : take n out' ≡ file_of (tunnel_of y) = mark_file (tunnel_of y) m f (file_length y.run.gas (cells y.run)) n (take n out') (ground (tunnel_of y) (Mark m f (length out))) line.seen in
+    let file : take n out' ≡ file_of (tunnel_of y) = mark_file (tunnel_of y) m f (file_length y.run.gas (cells y.run)) n (take n out') (ground_of (tunnel_of y) (Mark m f (length out))) line.seen in
     let same : tunnel_of z ≡ tunnel_of y = λ j. scene_of (h.0.run j) (h.1 j) (h.2 j) in
     let fine : Storable (tunnel_of z) = subst Storable (sym same) good in
     record {

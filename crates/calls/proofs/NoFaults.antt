@@ -1,7 +1,6 @@
 -- What it tells that no ground held.
-use Rattle.std.proofs.Common.{◌≡◌, ℕ, ◌+◌, ◌<◌, ◌≤◌, Bool, true, false, eqb, ltb, leb, List, length, get_or, Some, None, Ok, Err, Option, Result, sym, refl, ◌∙◌, arith}
-use Rattle.std.proofs.lemmas.Bool.{ltb-false, leb-false, eqb-false}
-use Rattle.lattice.specs.Firsts.{first}
+use Rattle.std.proofs.Common.{◌≡◌, ℕ, ◌+◌, ◌<◌, ◌≤◌, Bool, true, false, eqb, ltb, leb, List, length, get_or, Some, None, Ok, Err, Option, refl, arith}
+use Rattle.std.proofs.lemmas.Bool.{ltb-false, leb-false}
 use Rattle.lattice.proofs.Firsts.{none_first}
 use Rattle.gas.specs.Model.{states}
 use Rattle.faults.specs.declared.call.CallFault.{CallFault}

@@ -1,5 +1,5 @@
 -- A call that opens a file opens exactly what keeps the rules.
-use Rattle.std.proofs.Common.{◌≡◌, ℕ, ◌≤◌, Bool, false, ltb, List, length, Some, None, Ok, Err, Option, Result, sym, refl, ap, ◌∙◌, subst, arith}
+use Rattle.std.proofs.Common.{◌≡◌, ℕ, ◌≤◌, List, length, Some, None, Ok, Err, Option, Result, sym, refl, ap, ◌∙◌, subst, arith}
 use Rattle.std.proofs.lemmas.Bool.{ltb-false, le-ltb}
 use Rattle.faults.specs.declared.record.RecordFault.{RecordFault}
 use Rattle.faults.specs.declared.job.JobFault.{JobFault}
@@ -12,7 +12,7 @@ use Rattle.step.specs.Results.{over}
 use Rattle.records.specs.declared.payloads.Places.{Places}
 use Rattle.records.specs.Format.{Bytes}
 use Rattle.records.specs.Files.{Rec, IsFile}
-use Rattle.records.specs.Layout.{parts, numbered, Found}
+use Rattle.records.specs.Layout.{numbered}
 use Rattle.records.specs.Walk.{walked, largest_file}
 use Rattle.records.proofs.Layouts.{layout, file_done}
 use Rattle.job.specs.Jobs.{job_fault, fault_in, parts_in, parts_of, cells_in, bytes_at, run_in}
@@ -21,7 +21,7 @@ use Rattle.job.proofs.Keeping.{keeps, keeps_none}
 use Rattle.calls.specs.Grounds.{or_then, fault_if, raised, open_fault}
 use Rattle.calls.specs.Outcomes.{reply, leaves}
 use Rattle.calls.specs.Calls.{Opened}
-use Rattle.calls.specs.Files.{Suits, Says, Opens}
+use Rattle.calls.specs.Files.{Says, Opens}
 use Rattle.calls.proofs.NoFaults.{none-parts, not_if, reply-none}
 
 pub not_raised : (o : Option JobFault) → raised o ≡ None → o ≡ None

@@ -1,8 +1,8 @@
 -- A run and the cells that a call judged make a sound tunnel.
-use Rattle.std.proofs.Common.{◌≡◌, ℕ, ◌<◌, ◌≤◌, List, length, get_or, take, sym, ◌∙◌, subst, get_or-take}
+use Rattle.std.proofs.Common.{ℕ, ◌<◌, ◌≤◌, List, length, get_or, sym, subst, get_or-take}
 use Rattle.gas.specs.Model.{states}
 use Rattle.dynamics.specs.Roles.{highest_map_byte}
-use Rattle.dynamics.specs.Tunnels.{RunState, Tunnel, cells}
+use Rattle.dynamics.specs.Tunnels.{RunState, cells}
 use Rattle.dynamics.specs.Soundness.{SoundRun, SoundTunnel}
 use Rattle.step.specs.Scenes.{scene_of}
 use Rattle.step.proofs.Overlays.{length-take_of}

@@ -1,13 +1,13 @@
 -- Over a sound tunnel in buffers that are long enough, only arguments, the step count and the output are left to judge.
-use Rattle.std.proofs.Common.{◌≡◌, ℕ, ◌+◌, ◌<◌, ◌≤◌, Bool, true, false, not, eqb, ltb, leb, List, ◌++◌, length, get_or, take, drop, Some, None, Option, sym, refl, ap, ◌∙◌, subst, arith, get_or-take}
+use Rattle.std.proofs.Common.{◌≡◌, ℕ, ◌+◌, ◌<◌, ◌≤◌, Bool, not, ltb, leb, List, length, get_or, take, drop, None, Option, ap, ◌∙◌, subst, arith, get_or-take}
 use Rattle.std.proofs.lemmas.List.{take_at}
-use Rattle.std.proofs.lemmas.Bool.{ltb-false, leb-false, le-ltb, lt-leb, ne_eqb}
+use Rattle.std.proofs.lemmas.Bool.{le-ltb, lt-leb, ne_eqb}
 use Rattle.lattice.proofs.Firsts.{first-none}
 use Rattle.gas.specs.Model.{states}
 use Rattle.faults.specs.declared.call.CallFault.{CallFault}
 use Rattle.faults.specs.declared.call.CallFault.TheVariants.{ShortMap, ShortField, ShortSpare, MapByte, FieldByte, Argument, TooManySteps, ShortOutput}
 use Rattle.dynamics.specs.Roles.{highest_map_byte}
-use Rattle.dynamics.specs.Tunnels.{RunState, Tunnel, cells}
+use Rattle.dynamics.specs.Tunnels.{RunState, cells}
 use Rattle.dynamics.specs.Soundness.{SoundTunnel}
 use Rattle.step.specs.Scenes.{scene_of}
 use Rattle.step.specs.Results.{over}

@@ -1,12 +1,12 @@
 -- What each call answers, and what it leaves of the run and of each buffer.
-use Rattle.std.specs.Prelude.{◌≡◌, ℕ, ◌+◌, ◌*◌, List, length, replicate, pos, Result, slice_set}
+use Rattle.std.specs.Prelude.{◌≡◌, ℕ, ◌+◌, ◌*◌, List, length, replicate, Result, slice_set}
 use Rattle.lattice.specs.Grids.{cell_at}
 use Rattle.gas.specs.Model.{GasModel}
 use Rattle.twist.specs.Model.{TwistModel}
 use Rattle.book.specs.declared.account.Account.{Account}
 use Rattle.book.specs.Accounts.{accounts, none, account_at}
 use Rattle.faults.specs.declared.call.CallFault.{CallFault}
-use Rattle.dynamics.specs.Tunnels.{RunState, Tunnel, cells}
+use Rattle.dynamics.specs.Tunnels.{RunState, cells}
 use Rattle.dynamics.specs.Pushes.{after_steps}
 use Rattle.step.specs.Scenes.{scene_of}
 use Rattle.step.specs.Results.{over}

@@ -1,6 +1,6 @@
 -- The grounds on which a call is refused, in the order of judgement: the buffers' lengths, the bytes of map and field, the arguments, the
 -- step count. The first that holds is the fault.
-use Rattle.std.specs.Prelude.{ℕ, ◌+◌, ◌*◌, ◌%◌, ◌^◌, Bool, cond, not, ◌&&◌, ltb, leb, List, length, Some, None, Ok, Err, Option, Result, ◌==◌, nat_le, nat_lt, slice_index}
+use Rattle.std.specs.Prelude.{ℕ, ◌+◌, ◌*◌, ◌%◌, Bool, cond, not, ◌&&◌, ltb, leb, List, length, Some, None, Ok, Err, Option, Result, ◌==◌, nat_le, nat_lt, slice_index}
 use Rattle.lattice.specs.declared.fault.GridFault.{GridFault}
 use Rattle.lattice.specs.declared.fault.GridFault.TheVariants.{Width, Height, Area}
 use Rattle.lattice.specs.Firsts.{first}

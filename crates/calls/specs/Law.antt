@@ -11,7 +11,7 @@ use Rattle.twist.specs.Model.{TwistLaws}
 use Rattle.records.specs.Format.{Bytes}
 use Rattle.records.specs.Files.{less}
 use Rattle.calls.specs.Calls.{Blanked, Opened}
-use Rattle.calls.specs.Logs.{Scene, tunnel_of, Line, marked, Holds, Log, calls_of, Seen, seen_of}
+use Rattle.calls.specs.Logs.{Scene, tunnel_of, Line, marked, Holds, Log, calls_of, seen_of}
 use Rattle.calls.specs.Plain.{fed}
 
 -- by how much account n has grown from one tunnel to another

@@ -3,7 +3,7 @@
 use Rattle.std.specs.Prelude.{ℕ, ◌+◌, not, List, [], ◌∷◌, length, Option, ◌==◌, nat_le, nat_lt, slice_set}
 use Rattle.lattice.specs.Grids.{cell_at}
 use Rattle.book.specs.Accounts.{account_at}
-use Rattle.dynamics.specs.Tunnels.{RunState, Tunnel, cells}
+use Rattle.dynamics.specs.Tunnels.{Tunnel, cells}
 use Rattle.dynamics.specs.Roles.{highest_map_byte}
 use Rattle.dynamics.specs.Pushes.{after_steps}
 use Rattle.encode.specs.Encodings.{file_of, file_length}
@@ -25,25 +25,25 @@ abbrev pub text_of : Tunnel → ℕ → List ℕ
 text_of t b = report_text (snapshot t.run t.field) b
 
 -- the first ground on which a call is refused
-abbrev pub ground : Tunnel → Call → Option CallFault
-ground t (Advance k m f n) =
+abbrev pub ground_of : Tunnel → Call → Option CallFault
+ground_of t (Advance k m f n) =
     or_then (fault_if (nat_lt m (cells_of t)) ShortMap)
     (or_then (fault_if (nat_lt f (cells_of t)) ShortField)
     (or_then (fault_if (nat_lt n (cells_of t)) ShortSpare)
     (or_then (fault_if (k == 0) (Argument 1))
     (or_then (fault_if (nat_lt most_steps k) (Argument 1))
     (fault_if (nat_lt step_limit (t.run.steps + k)) TooManySteps)))))
-ground t (Paint column row kind m) =
+ground_of t (Paint column row kind m) =
     or_then (fault_if (nat_lt m (cells_of t)) ShortMap)
     (or_then (fault_if (nat_le t.run.width column) (Argument 1))
     (or_then (fault_if (nat_le t.run.height row) (Argument 2))
     (fault_if (nat_lt highest_map_byte kind) (Argument 3))))
-ground t (Fan period) = fan_fault period
-ground t (Report b f n) =
+ground_of t (Fan period) = fan_fault period
+ground_of t (Report b f n) =
     or_then (fault_if (nat_lt f (cells_of t)) ShortField)
     (or_then (fault_if (not (patch_fits t.run b)) (Argument 1)) (fault_if (nat_lt n (length (text_of t b))) ShortOutput))
-ground t (Account n) = account_fault n
-ground t (Mark m f n) =
+ground_of t (Account n) = account_fault n
+ground_of t (Mark m f n) =
     or_then (fault_if (nat_lt m (cells_of t)) ShortMap)
     (or_then (fault_if (nat_lt f (cells_of t)) ShortField) (fault_if (nat_lt n (file_length t.run.gas (cells_of t))) ShortOutput))
 
@@ -65,7 +65,7 @@ moved (Mark m f n) t = t
 
 -- one call, and a list of them
 abbrev pub fed_one : Call → Tunnel → Tunnel
-fed_one c t = leaves (ground t c) t (moved c t)
+fed_one c t = leaves (ground_of t c) t (moved c t)
 
 abbrev pub fed : List Call → Tunnel → Tunnel
 fed [] t = t
@@ -73,9 +73,9 @@ fed (c ∷ cs) t = fed cs (fed_one c t)
 
 -- what its caller would see of a call
 abbrev pub shows : Tunnel → Call → Seen
-shows t (Advance k m f n) = counted (reply (ground t (Advance k m f n)) (t.run.steps + k))
-shows t (Paint column row kind m) = plainly (reply (ground t (Paint column row kind m)) tt)
-shows t (Fan period) = plainly (reply (ground t (Fan period)) tt)
-shows t (Report b f n) = written (reply (ground t (Report b f n)) (length (text_of t b))) (leaves (ground t (Report b f n)) [] (text_of t b))
-shows t (Account n) = account (reply (ground t (Account n)) (account_at t.run.book n))
-shows t (Mark m f n) = written (reply (ground t (Mark m f n)) (file_length t.run.gas (cells_of t))) (leaves (ground t (Mark m f n)) [] (file_of t))
+shows t (Advance k m f n) = counted (reply (ground_of t (Advance k m f n)) (t.run.steps + k))
+shows t (Paint column row kind m) = plainly (reply (ground_of t (Paint column row kind m)) tt)
+shows t (Fan period) = plainly (reply (ground_of t (Fan period)) tt)
+shows t (Report b f n) = written (reply (ground_of t (Report b f n)) (length (text_of t b))) (leaves (ground_of t (Report b f n)) [] (text_of t b))
+shows t (Account n) = account (reply (ground_of t (Account n)) (account_at t.run.book n))
+shows t (Mark m f n) = written (reply (ground_of t (Mark m f n)) (file_length t.run.gas (cells_of t))) (leaves (ground_of t (Mark m f n)) [] (file_of t))

@@ -1,4 +1,6 @@
 // What each call answers and leaves, and what holds over whole logs of calls.
+#![tactic(auto)]
+
 mod call;
 mod laws;
 

@@ -8,7 +8,6 @@ use Rattle.gas.specs.Model.{GasModel}
 use Rattle.gas.specs.Laws.{GasLaws}
 use Rattle.twist.specs.Model.{TwistModel, TwistLaws}
 use Rattle.records.specs.Format.{Bytes}
-use Rattle.records.specs.Orders.{skippable}
 use Rattle.records.specs.Files.{Rec, rec, Fine, laid, kept, in_order, IsFile, less}
 use Rattle.records.specs.Layout.{numbered}
 use Rattle.records.specs.Walk.{largest_file}

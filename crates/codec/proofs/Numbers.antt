@@ -3,7 +3,7 @@ use Rattle.std.proofs.Common.{◌≡◌, ℕ, ◌+◌, ◌^◌, ◌<◌, ◌≤�
 use Rattle.std.proofs.lemmas.List.{length-take-le, length-drop, take-append-drop, drop-drop}
 use Rattle.std.proofs.ByRecursion.{All-take, All-drop}
 use Rattle.std.proofs.lemmas.Int.{of_z-to_z}
-use Rattle.records.specs.Format.{Bytes, number, le}
+use Rattle.records.specs.Format.{Bytes, le}
 use Rattle.records.proofs.Numbers.{le-number, number_under}
 use Rattle.job.specs.Heads.{number_at}
 

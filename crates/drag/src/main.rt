@@ -1,4 +1,6 @@
 // The drag of a plate: it prints the step count, what a plate across the stream took up, and the particles.
+#![tactic(auto)]
+
 mod bars;
 mod lines;
 mod plate;

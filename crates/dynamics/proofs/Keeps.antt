@@ -13,7 +13,7 @@ use Rattle.dynamics.specs.Tunnels.{Tunnel, cells}
 use Rattle.dynamics.specs.Step.{collided, streamed}
 use Rattle.dynamics.specs.Pushes.{push_on, book_after, stepped}
 use Rattle.dynamics.specs.Soundness.{SoundTunnel}
-use Rattle.dynamics.specs.Balance.{particles_of, momentum_of, balance_of, wall_pushes, StepKeeps}
+use Rattle.dynamics.specs.Balance.{particles_of, momentum_of, balance_of, wall_pushes, EachStepKeeps}
 use Rattle.dynamics.proofs.Lists.{length-listed}
 use Rattle.dynamics.proofs.Marks.{mark_at_lawful}
 use Rattle.dynamics.proofs.Weights.{weigh}
@@ -89,7 +89,7 @@ module _ (t : Tunnel) (sound : SoundTunnel t) where
     field = streamed_below t sound;
   }
 
-pub step_keeps : StepKeeps
+pub step_keeps : EachStepKeeps
 step_keeps t sound = record {
   particles = particles-kept t sound;
   momentum = momentum-kept t sound;

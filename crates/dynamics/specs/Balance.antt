@@ -44,8 +44,8 @@ pub record StepKeeps (t : Tunnel) : Type 0 where
   pub small : (n : ℕ) → 1 ≤ n → n ≤ accounts → (unsigned_abs (push_on t n).along ≤ most_push) × (unsigned_abs (push_on t n).across ≤ most_push)
   pub sound : SoundTunnel (stepped t)
 
-abbrev pub StepKeeps : Type 0
-StepKeeps = (t : Tunnel) → SoundTunnel t → StepKeeps t
+abbrev pub EachStepKeeps : Type 0
+EachStepKeeps = (t : Tunnel) → SoundTunnel t → StepKeeps t
 
 pub record RunKeeps (k : ℕ) (t : Tunnel) : Type 0 where
   pub particles : particles_of (after_steps k t) ≡ particles_of t

@@ -9,7 +9,7 @@ use Rattle.book.specs.declared.account.Account.{Account}
 use Rattle.book.specs.Accounts.{accounts, fan_account, none, grown}
 use Rattle.dynamics.specs.Roles.{is_wall_of, is_fan}
 use Rattle.dynamics.specs.Cells.{east, can_turn}
-use Rattle.dynamics.specs.Tunnels.{RunState, Tunnel, cells, listed}
+use Rattle.dynamics.specs.Tunnels.{Tunnel, cells, listed}
 use Rattle.dynamics.specs.Step.{fan_acts, mark_at, role_at, twist_at, streamed}
 
 abbrev pub wall_push : Tunnel → ℕ → Vector

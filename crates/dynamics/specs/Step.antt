@@ -1,13 +1,13 @@
 -- One step, cell by cell. The source is asked once for every cell, walls too, in the order of their numbers; each cell's state
 -- becomes what its role makes of it; then each particle moves to the neighbour by its channel.
-use Rattle.std.specs.Prelude.{ℕ, zero, suc, ◌+◌, ◌%◌, Bool, not, ◌&&◌, List, ◌==◌, slice_index}
+use Rattle.std.specs.Prelude.{ℕ, zero, suc, ◌%◌, Bool, not, ◌&&◌, List, ◌==◌, slice_index}
 use Rattle.lattice.specs.Grids.{column_of, row_of}
 use Rattle.gas.specs.Streaming.{arriving}
 use Rattle.twist.specs.Model.{TwistModel}
 use Rattle.dynamics.specs.declared.role.Role.{Role}
 use Rattle.dynamics.specs.Roles.{role_of}
 use Rattle.dynamics.specs.Cells.{collision}
-use Rattle.dynamics.specs.Tunnels.{RunState, Tunnel, cells, listed}
+use Rattle.dynamics.specs.Tunnels.{Tunnel, cells, listed}
 
 -- the fan acts at step t if its period is not 0 and divides t
 abbrev pub fan_acts : ℕ → ℕ → Bool

@@ -1,9 +1,9 @@
 // What a step keeps, for every gas and every source.
-ghost use Rattle.dynamics.specs.Balance.{StepKeeps, StepsKeep, MovesDecide};
+ghost use Rattle.dynamics.specs.Balance.{EachStepKeeps, StepsKeep, MovesDecide};
 
 /// A step keeps the particles and the balance of momentum, walls and fan, and moves each particle to the neighbour by its channel.
 pub fn step_keeps() -> u8
-    ensures { StepKeeps }
+    ensures { EachStepKeeps }
 {
     0
 }

@@ -1,4 +1,6 @@
 // What a step does, as definitions, and what it keeps, as theorems.
+#![tactic(auto)]
+
 mod laws;
 mod role;
 

@@ -4,7 +4,7 @@ ghost use Rattle.text.specs.Buffers.{over};
 ghost use Rattle.encode.specs.Encodings.{file_of, file_length};
 ghost use Rattle.encode.specs.Handed.{run_from, tunnel_from};
 
-use super::book::book_bytes;
+use super::accounts::book_bytes;
 use super::head::head_bytes;
 use super::record::put_record;
 use super::rules::rules_bytes;

@@ -1,5 +1,7 @@
 // The encoder: a tunnel's state as the bytes of a file.
-mod book;
+#![tactic(auto)]
+
+mod accounts;
 mod file;
 mod head;
 mod numbers;

@@ -1,7 +1,7 @@
 // The call layer: buffers and arguments.
 ghost use Rattle.std.specs.Prelude.{◌≡◌};
 ghost use Rattle.faults.specs.declared.call.CallFault.TheVariants.{Job};
-ghost use Rattle.faults.specs.Call.{number as number_of, layer as layerOf, record_of, offset as offset_of};
+ghost use Rattle.faults.specs.Call.{number as number_of, layer as layer_of, record_of, offset as offset_of};
 
 use super::job::JobFault;
 
@@ -50,7 +50,7 @@ impl CallFault {
     }
 
     pub fn layer(&self) -> u8
-        ensures { result ≡ layerOf self.now }
+        ensures { result ≡ layer_of self.now }
     {
         match self {
             CallFault::Job(fault) => fault.layer(),

@@ -1,4 +1,6 @@
 // Small worked figures, as one theorem over the definitions and as tests of the code.
+#![tactic(auto)]
+
 ghost use Rattle.figures.specs.Figures.{Figures};
 
 #[cfg(test)]

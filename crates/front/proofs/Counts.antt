@@ -1,13 +1,12 @@
 -- A file has no more records than bytes.
-use Rattle.std.proofs.Common.{◌≡◌, ℕ, ◌+◌, ◌<◌, ◌≤◌, Bool, true, false, cond, List, [], ◌∷◌, length, get_or, sym, refl, ap, ◌∙◌, subst, inl, inr, arith}
+use Rattle.std.proofs.Common.{ℕ, ◌+◌, ◌<◌, ◌≤◌, Bool, true, false, cond, List, [], ◌∷◌, length, sym, ap, subst, arith}
 use Rattle.records.specs.declared.payloads.Places.{Places}
-use Rattle.records.specs.Files.{Rec, laid, kinds, kept}
+use Rattle.records.specs.Files.{Rec}
 use Rattle.records.specs.Orders.{skippable}
-use Rattle.records.specs.Layout.{numbered_from, numbered, parts, Found}
+use Rattle.records.specs.Layout.{numbered_from, parts, Found}
 use Rattle.records.specs.Walk.{largest_file}
 use Rattle.records.proofs.Rows.{length-laid}
 use Rattle.std.specs.List.{AllByRecursion as All}
-use Rattle.std.proofs.ByRecursion.{All-get_or}
 
 -- the numbers of records are below their count
 below_count : (n : ℕ) (rs : List Rec) (m : ℕ) → n + length rs ≤ m → All (λ (p : ℕ × List ℕ). p.0 < m) (numbered_from n rs)

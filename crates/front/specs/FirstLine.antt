@@ -2,7 +2,7 @@
 -- k is a number from 1 to 65,535 and b one from 1 to 64, parted by one blank and ended by byte 10; the job file follows.
 -- k is what stands before the line's first blank, b what stands behind it up to the line's end. Where k is no such number
 -- the first argument is at fault; then, where b is none or the line has no end, the second.
-use Rattle.std.specs.Prelude.{◌≡◌, ℕ, ◌+◌, ◌≤◌, List, [], ◌∷◌, ◌++◌, length, take, drop, Some, None, Ok, Err, decimal, Option, Result, nat_eq, slice_index}
+use Rattle.std.specs.Prelude.{ℕ, ◌+◌, List, [], length, take, drop, Some, None, Ok, Err, Option, Result, nat_eq, slice_index}
 use Rattle.faults.specs.declared.call.CallFault.{CallFault}
 use Rattle.faults.specs.declared.call.CallFault.TheVariants.{Argument}
 use Rattle.lattice.specs.Firsts.{first}

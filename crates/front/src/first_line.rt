@@ -1,6 +1,6 @@
 // The first line: how many steps, and how wide the patches are.
 ghost use Rattle.std.specs.Prelude.{◌≡◌, ℕ, ◌≤◌, length, IfOk};
-ghost use Rattle.front.specs.FirstLine.{place_of, before as beforePlace, behind as behindPlace, first_line};
+ghost use Rattle.front.specs.FirstLine.{place_of, before as before_place, behind as behind_place, first_line};
 ghost use Rattle.front.specs.Places.{Within};
 
 use super::number::number_up_to;
@@ -34,7 +34,7 @@ fn place_of(byte: u8, bytes: &[u8]) -> Option<usize>
 /// What stands before the place, or all.
 fn before(place: Option<usize>, bytes: &[u8]) -> &[u8]
     requires { Within place bytes.now }
-    ensures { result.now ≡ beforePlace place bytes.now }
+    ensures { result.now ≡ before_place place bytes.now }
 {
     match place {
         None => bytes,
@@ -45,7 +45,7 @@ fn before(place: Option<usize>, bytes: &[u8]) -> &[u8]
 /// What stands behind the place, or nothing.
 fn behind(place: Option<usize>, bytes: &[u8]) -> &[u8]
     requires { Within place bytes.now }
-    ensures { result.now ≡ behindPlace place bytes.now }
+    ensures { result.now ≡ behind_place place bytes.now }
 {
     match place {
         None => &bytes[0..0],

@@ -1,4 +1,6 @@
 // What the program decides, as functions on values.
+#![tactic(auto)]
+
 mod answers;
 mod first_line;
 mod lines;

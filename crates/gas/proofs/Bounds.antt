@@ -1,5 +1,5 @@
 -- How many particles a state or a field can have, and how large their momentum can be: one and two for each channel.
-use Rattle.std.proofs.Common.{ℕ, ◌*◌, ◌<◌, ◌≤◌, cond, List, get_or, pos, nat_abs, arith}
+use Rattle.std.proofs.Common.{ℕ, ◌*◌, ◌≤◌, cond, List, get_or, pos, nat_abs, arith}
 use Rattle.lattice.specs.Sums.{sum_n, sum_z}
 use Rattle.lattice.specs.States.{holds, momentum}
 use Rattle.lattice.proofs.Sums.{sum_nat_abs, sum_n_bound, cond_nat_abs}

@@ -1,5 +1,5 @@
 -- Neighbours by column and row: if columns and rows come back, so do cells.
-use Rattle.std.proofs.Common.{◌≡◌, ℕ, ◌*◌, ◌<◌, ◌≤◌, Bool, true, false, cond, ◌&&◌, ltb, refl, ap, ◌∙◌, ap₂, arith}
+use Rattle.std.proofs.Common.{◌≡◌, ℕ, ◌*◌, ◌<◌, ◌≤◌, Bool, true, false, ◌&&◌, ltb, refl, ap, ◌∙◌, ap₂, arith}
 use Rattle.std.proofs.lemmas.Bool.{lt-ltb, le-ltb, cond-true, cond-false}
 use Rattle.lattice.specs.Grids.{Lawful, cell_at, column_of, row_of}
 use Rattle.lattice.proofs.Cells.{cell_below, column_of_cell, row_of_cell, cell_of, column_in, row_in}

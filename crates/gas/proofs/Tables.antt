@@ -1,13 +1,12 @@
 -- Judging a list of entries: the first unsound place, and what it means that there is none.
-use Rattle.std.proofs.Common.{◌≡◌, ℕ, ◌+◌, ◌-◌, ◌*◌, ◌%◌, ◌<◌, ◌≤◌, max, Bool, true, false, cond, not, ◌&&◌, eqb, ltb, List, length, get_or, ℤ, pos, negsuc, is_ok, Some, None, Ok, Err, Option, sym, refl, ap, ◌∙◌, subst, inl, inr, mod-eq_of_lt, one-mul, zero-add, zero-mul, arith}
+use Rattle.std.proofs.Common.{◌≡◌, ℕ, ◌+◌, ◌-◌, ◌*◌, ◌%◌, ◌<◌, max, Bool, true, false, not, ◌&&◌, ltb, List, length, get_or, ℤ, pos, negsuc, is_ok, Some, None, Ok, Err, Option, sym, refl, ap, ◌∙◌, subst, inl, inr, mod-eq_of_lt, one-mul, zero-add, zero-mul, arith}
 use native.Mathlib.Nat.{add-mod_left}
-use Rattle.std.proofs.lemmas.Nat.{mod_below, pow_pos}
-use Rattle.std.proofs.lemmas.Bool.{eqb-true, eq-eqb, ltb-true, lt-ltb, le-ltb, and_parts, not-true, cases_lt}
+use Rattle.std.proofs.lemmas.Nat.{pow_pos}
+use Rattle.std.proofs.lemmas.Bool.{eqb-true, eq-eqb, ltb-true, lt-ltb, and_parts, cases_lt}
 use Rattle.gas.specs.declared.fault.TableFault.TheVariants.{Unsound}
-use Rattle.lattice.specs.Firsts.{first}
 use Rattle.lattice.proofs.Firsts.{first-none, first_some, none_first}
 use Rattle.lattice.proofs.Vectors.{same_vector}
-use Rattle.gas.specs.Model.{GasModel, states, particles, momentum, entry_place}
+use Rattle.gas.specs.Model.{GasModel, states, momentum, entry_place}
 use Rattle.gas.specs.Soundness.{SoundEntry, SoundTable}
 use Rattle.gas.specs.Judging.{same_number, sound_entry, sound_place, first_unsound, unless, table_judged, good_table, TakenIfSound}
 

@@ -1,6 +1,6 @@
 -- How a list of entries is judged: it is taken if every place is sound, and otherwise the first unsound place is named.
 -- A missing or a surplus entry is unsound.
-use Rattle.std.specs.Prelude.{◌≡◌, ℕ, ◌*◌, ◌%◌, max, Bool, true, false, cond, not, ◌&&◌, List, length, ℤ, pos, negsuc, is_ok, Some, None, Ok, Err, Option, Result, ◌==◌, nat_lt, slice_index}
+use Rattle.std.specs.Prelude.{◌≡◌, ℕ, ◌*◌, ◌%◌, max, Bool, false, cond, not, ◌&&◌, List, length, ℤ, pos, negsuc, is_ok, Some, None, Ok, Err, Option, Result, ◌==◌, nat_lt, slice_index}
 use Rattle.lattice.specs.Firsts.{first}
 use Rattle.gas.specs.declared.fault.TableFault.{TableFault}
 use Rattle.gas.specs.declared.fault.TableFault.TheVariants.{Unsound}

@@ -1,4 +1,6 @@
 // The interface that every gas keeps.
+#![tactic(auto)]
+
 mod fault;
 mod laws;
 mod totals;
@@ -8,7 +10,7 @@ ghost use Rattle.gas.specs.Model.{GasModel, outcome, particles as particles_of, 
 ghost use Rattle.gas.specs.Soundness.{SoundTable};
 ghost use Rattle.gas.specs.Laws.{GasLaws};
 ghost use Rattle.gas.specs.Judging.{table_judged, entries_after, sound_entry, sound_place};
-ghost use Rattle.gas.specs.Streaming.{arriving as arrivingAt, RowStreamed};
+ghost use Rattle.gas.specs.Streaming.{arriving as arriving_at, RowStreamed};
 
 pub use fault::TableFault;
 use lattice::{Grid, Vector, byte_at, held, states_of, with_particle};
@@ -120,7 +122,7 @@ pub trait Gas {
 
     /// The state that streams into a cell.
     fn arriving(&self, grid: Grid, from: &[u8], cell: usize) -> u8
-        ensures { result ≡ arrivingAt (model self.now) grid.width grid.height from.now cell }
+        ensures { result ≡ arriving_at (model self.now) grid.width grid.height from.now cell }
     {
         let mut state = 0;
         for channel in 0..self.channels() {

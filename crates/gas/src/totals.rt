@@ -15,8 +15,8 @@ pub struct Totals {
 /// The particles and the momentum of a field of at most 16,384 cells, walls included.
 pub fn field_totals<G: Gas>(gas: &G, field: &[u8]) -> Totals
     requires { length field.now ≤ 16384 }
-    ensures particles { result.particles ≡ field_particles (model gas.now).channels field.now }
-    ensures momentum { result.momentum ≡ field_momentum (model gas.now).channels (model gas.now).vector field.now }
+    ensures particles { result.particles ≡ field_particles (G.model gas.now).channels field.now }
+    ensures momentum { result.momentum ≡ field_momentum (G.model gas.now).channels (G.model gas.now).vector field.now }
 {
     let mut particles: u32 = 0;
     let mut along = 0;

@@ -1,10 +1,10 @@
 -- From the table as a whole to each of its entries.
-use Rattle.std.proofs.Common.{◌≡◌, ℕ, zero, suc, ◌+◌, ◌-◌, ◌*◌, ◌<◌, ◌≤◌, Bool, true, false, cond, ◌&&◌, eqb, ltb, List, [], ◌∷◌, ◌++◌, map, length, get_or, sym, refl, ap, ◌∙◌, inl, inr, zero-add, arith}
+use Rattle.std.proofs.Common.{◌≡◌, ℕ, zero, suc, ◌-◌, ◌<◌, Bool, true, false, ◌&&◌, eqb, ltb, List, [], ◌∷◌, ◌++◌, map, length, get_or, refl, ap, ◌∙◌, inl, inr, zero-add, arith}
 use Rattle.std.specs.List.{range_with_len}
 use Rattle.std.proofs.lemmas.List.FromFn.{length-map-range_with_len, get_or-map-range_with_len}
 use Rattle.std.proofs.lemmas.List.{get_or_append_left, get_or-append_right}
 use Rattle.std.proofs.lemmas.Bool.{eqb-true, ne_eqb, ltb-true, lt-ltb, le-ltb, and_parts, cases_eq, cases_lt, cond-true, cond-false}
-use Rattle.gas.specs.Model.{outcome, entry_place, tabulated}
+use Rattle.gas.specs.Model.{outcome, entry_place}
 use Rattle.hexagonal.specs.Collisions.{rules, applied, house_rule}
 use Rattle.hexagonal.specs.Hexagonal.{hexagonal}
 use Rattle.hexagonal.specs.House.{rule_state, rule_outcome, HouseRules}

@@ -9,7 +9,6 @@ use Rattle.lattice.proofs.Rings.{wrap_in, onward_next, backward_next}
 use Rattle.gas.specs.Model.{GasModel}
 use Rattle.gas.specs.Streaming.{arriving}
 use Rattle.gas.proofs.Arrivals.{gathered-arriving}
-use Rattle.hexagonal.specs.declared.streaming.Columns.{Columns}
 use Rattle.hexagonal.specs.Channels.{across, column_by, row_by}
 use Rattle.hexagonal.specs.Sources.{columns_around, sources, HexagonalChannels}
 use Rattle.hexagonal.specs.Lawful.{below_seven}

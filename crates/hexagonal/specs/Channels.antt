@@ -1,7 +1,7 @@
 -- The channels of the hexagonal lattice: 0 to 5 lead E, NE, NW, W, SW and SE, and 6 is rest.
 -- E and W lead to columns c + 1 and c - 1. With e = r mod 2, NE and SE lead to column c + e, NW and SW to c + e - 1;
 -- NE and NW lead to row r + 1, SE and SW to r - 1. Columns and rows wrap. Rest stays in its cell.
-use Rattle.std.specs.Prelude.{ℕ, ◌+◌, ◌-◌, ◌%◌, Bool, cond, ◌||◌, pos, negsuc, ◌==◌, nat_lt}
+use Rattle.std.specs.Prelude.{ℕ, ◌+◌, ◌%◌, cond, ◌||◌, pos, negsuc, ◌==◌, nat_lt}
 use Rattle.lattice.specs.declared.vector.Vector.{Vector}
 use Rattle.lattice.specs.Grids.{onward, backward}
 use Rattle.lattice.specs.Vectors.{vec, still}

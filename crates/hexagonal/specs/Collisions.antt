@@ -1,5 +1,5 @@
 -- The house rules of the hexagonal gas. Channels are counted modulo 6; a state that no rule names stays as it is.
-use Rattle.std.specs.Prelude.{ℕ, ◌+◌, ◌%◌, ◌^◌, Bool, cond, List, [], ◌∷◌, ◌++◌, ◌==◌}
+use Rattle.std.specs.Prelude.{ℕ, ◌+◌, ◌%◌, ◌^◌, Bool, cond, List, [], ◌∷◌, ◌==◌}
 use Rattle.std.specs.List.{range_with_len, flat_map}
 
 -- the state with a moving particle in just these channels

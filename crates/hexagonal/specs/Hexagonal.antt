@@ -1,5 +1,4 @@
 -- The hexagonal gas with a rest particle, kind 7.
-use Rattle.std.specs.Prelude.{ℕ}
 use Rattle.gas.specs.Model.{GasModel, reached, on_grid, tabulated}
 use Rattle.hexagonal.specs.Channels.{heading, across, column_by, row_by}
 use Rattle.hexagonal.specs.Collisions.{house_rule}

@@ -1,11 +1,11 @@
 -- The hexagonal gas keeps the laws.
-use Rattle.std.specs.Prelude.{◌≡◌, ℕ, zero, suc, ◌+◌, ◌-◌, ◌%◌, ◌<◌, ◌≤◌, Bool, true, false, cond, List, unsigned_abs, refl}
-use Rattle.std.proofs.Common.{sym, ap, ap₂, subst, ◌∙◌, inl, inr, arith, add-zero}
+use Rattle.std.specs.Prelude.{◌≡◌, ℕ, zero, suc, ◌+◌, ◌-◌, ◌%◌, ◌<◌, ◌≤◌, unsigned_abs, refl}
+use Rattle.std.proofs.Common.{ap, ap₂, subst, ◌∙◌, inl, inr, arith, add-zero}
 use Rattle.std.proofs.lemmas.Nat.{mod_below}
 use Rattle.std.proofs.lemmas.Bool.{cases_eq, cases_lt}
 use Rattle.std.proofs.lemmas.Bool.Decides.{nat_tests}
 use Rattle.lattice.specs.Vectors.{negated, still}
-use Rattle.lattice.specs.Grids.{Lawful, cell_at, onward, backward}
+use Rattle.lattice.specs.Grids.{cell_at, onward, backward}
 use Rattle.lattice.proofs.Rings.{wrap_in, wrap_over, onward_in, backward_in, back_on, on_back}
 use Rattle.gas.specs.Laws.{GasLaws}
 use Rattle.gas.specs.Soundness.{SoundTable}

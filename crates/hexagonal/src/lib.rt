@@ -1,4 +1,6 @@
 // The hexagonal gas: channels E, NE, NW, W, SW, SE and rest.
+#![tactic(auto)]
+
 mod laws;
 mod outcomes;
 mod streaming;

@@ -1,5 +1,5 @@
 -- No fault is found in payloads exactly if they keep the rules.
-use Rattle.std.proofs.Common.{◌≡◌, ℕ, ◌*◌, ◌<◌, ◌≤◌, Bool, true, false, not, ◌&&◌, eqb, ltb, leb, List, length, get_or, nat_abs, Some, None, Ok, Err, Option, Result, sym, refl, ap, ◌∙◌, subst, arith}
+use Rattle.std.proofs.Common.{◌≡◌, ℕ, ◌*◌, ◌<◌, ◌≤◌, Bool, true, false, not, ltb, leb, List, length, get_or, nat_abs, Some, None, Ok, Err, Option, Result, sym, refl, ap, ◌∙◌, arith}
 use Rattle.std.proofs.lemmas.Bool.{ltb-false, leb-false, eqb-true, eq-eqb, le-ltb, lt-leb}
 use Rattle.std.proofs.lemmas.Bool.Decides.{nat_tests}
 use Rattle.lattice.specs.declared.fault.GridFault.{GridFault}
@@ -7,10 +7,9 @@ use Rattle.lattice.specs.declared.fault.GridFault.TheVariants.{Width, Height, Ar
 use Rattle.lattice.specs.Firsts.{first}
 use Rattle.lattice.specs.Grids.{Lawful, judged}
 use Rattle.lattice.proofs.Firsts.{first-none, none_first}
-use Rattle.gas.specs.declared.fault.TableFault.{TableFault}
 use Rattle.gas.specs.Model.{GasModel, states}
 use Rattle.gas.specs.Soundness.{SoundTable}
-use Rattle.gas.specs.Judging.{first_unsound, table_judged, unless}
+use Rattle.gas.specs.Judging.{unless}
 use Rattle.gas.proofs.Tables.{taken_if_sound}
 use Rattle.twist.specs.Model.{TwistModel}
 use Rattle.book.specs.Accounts.{accounts, most_push}
@@ -20,8 +19,8 @@ use Rattle.faults.specs.declared.job.JobFault.TheVariants as jobs
 use Rattle.job.specs.declared.head.Head.{Head}
 use Rattle.job.specs.Heads.{head_length, head_of}
 use Rattle.job.specs.Books.{book_length, number_of}
-use Rattle.job.specs.Grounds.{or_then, fault_if, fault_at, length_fault, kinds_fault, grid_fault, limits_fault, mark_fault, head_fault, rules_fault, map_fault, field_fault, book_fault, longest_period, step_limit}
-use Rattle.job.specs.Jobs.{part_at, bytes_at, head_in, cells_in, payloads_fault}
+use Rattle.job.specs.Grounds.{or_then, fault_if, fault_at, length_fault, kinds_fault, grid_fault, limits_fault, mark_fault, head_fault, rules_fault, book_fault, longest_period, step_limit}
+use Rattle.job.specs.Jobs.{bytes_at, head_in, cells_in, payloads_fault}
 use Rattle.job.specs.Keeps.{HeadKeeps, Stretch, BookKeeps, Keeps}
 use Rattle.job.proofs.NoFaults.{pass, both_none, whole_none}
 

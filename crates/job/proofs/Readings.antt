@@ -1,22 +1,18 @@
 -- What a judged file says of a run: the parts of its places, and what its payloads keep.
-use Rattle.std.proofs.Common.{◌≡◌, ℕ, ◌+◌, ◌*◌, ◌<◌, ◌≤◌, Bool, true, ◌&&◌, leb, List, length, get_or, nat_abs, None, Ok, Result, sym, refl, ap, ◌∙◌, subst, arith}
+use Rattle.std.proofs.Common.{◌≡◌, ℕ, ◌+◌, ◌*◌, ◌<◌, true, ◌&&◌, List, length, get_or, nat_abs, None, Ok, sym, ap, ◌∙◌, subst, arith}
 use Rattle.std.proofs.lemmas.Bool.{le-leb}
 use Rattle.gas.specs.Model.{GasModel}
 use Rattle.twist.specs.Model.{TwistModel}
 use Rattle.book.specs.declared.account.Account.{Account}
 use Rattle.book.specs.Accounts.{accounts, none, account_fits, book_fits, most_push}
 use Rattle.book.proofs.Ranges.{fits_all}
-use Rattle.dynamics.specs.Tunnels.{listed}
 use Rattle.dynamics.proofs.Lists.{length-listed, get_d_listed}
-use Rattle.faults.specs.declared.record.RecordFault.{RecordFault}
 use Rattle.records.specs.declared.payloads.Places.{Places}
 use Rattle.records.specs.Layout.{parts}
 use Rattle.records.specs.Walk.{walked, largest_file}
-use Rattle.job.specs.declared.jobs.Job.{Job}
 use Rattle.job.specs.Books.{number_of, account_in, accounts_of}
-use Rattle.job.specs.Jobs.{job_fault, fault_in, parts_in, parts_of, head_in, bytes_at}
+use Rattle.job.specs.Jobs.{job_fault, fault_in, parts_in, parts_of}
 use Rattle.job.specs.Keeps.{BookKeeps, Keeps}
-use Rattle.job.specs.Results.{IsJob}
 use Rattle.job.proofs.Keeping.{keeps}
 
 -- the parts of a file that was walked are those at its places

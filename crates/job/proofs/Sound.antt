@@ -1,5 +1,5 @@
 -- The tunnel that payloads say is sound, if they keep the rules.
-use Rattle.std.proofs.Common.{◌≡◌, ℕ, ◌<◌, ◌≤◌, true, List, sym, subst, arith}
+use Rattle.std.proofs.Common.{ℕ, List, arith}
 use Rattle.gas.specs.Model.{GasModel}
 use Rattle.gas.specs.Laws.{GasLaws}
 use Rattle.twist.specs.Model.{TwistModel, TwistLaws}

@@ -29,7 +29,7 @@ cells_in ps = (head_in ps).width * (head_in ps).height
 
 -- the payload at a place of the order put to a ground, with its record's number
 abbrev pub put : (ℕ → List ℕ → Option JobFault) → ℕ × List ℕ → Option JobFault
-put ground p = ground p.0 p.1
+put ground_of p = ground_of p.0 p.1
 
 -- the payloads in file order
 abbrev pub payloads_fault : GasModel → TwistModel → List (ℕ × List ℕ) → Option JobFault

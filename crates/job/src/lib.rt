@@ -1,4 +1,6 @@
 // The job layer: what the payloads of a file say, judged once every record stands.
+#![tactic(auto)]
+
 mod accounts;
 mod head;
 mod jobs;

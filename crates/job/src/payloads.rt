@@ -46,7 +46,7 @@ pub(crate) fn judge_length(number: usize, payload: &[u8], wanted: usize) -> Resu
 
 /// The rules are two sound entries for each state.
 pub(crate) fn judge_rules<G: Gas>(gas: &G, number: usize, payload: &[u8]) -> Result<(), JobFault>
-    ensures { result ≡ judgment (rules_fault (model gas.now) number payload.now) }
+    ensures { result ≡ judgment (rules_fault (G.model gas.now) number payload.now) }
 {
     judge_length(number, payload, 2 * states_of(gas.channels()))?;
     match gas.first_unsound(payload) {
@@ -73,7 +73,7 @@ pub(crate) fn judge_field<G: Gas>(
     payload: &[u8],
     cells: usize,
 ) -> Result<(), JobFault>
-    ensures { result ≡ judgment (field_fault (model gas.now) cells number payload.now) }
+    ensures { result ≡ judgment (field_fault (G.model gas.now) cells number payload.now) }
 {
     judge_length(number, payload, cells)?;
     match first_from(payload, states_of(gas.channels())) {

@@ -1,5 +1,5 @@
 -- Cells by number, and by column and row.
-use Rattle.std.proofs.Common.{◌≡◌, ℕ, ◌+◌, ◌*◌, ◌/◌, ◌%◌, ◌<◌, ◌≤◌, sym, ◌∙◌, subst, mul_comm, add-mul, one-mul, arith}
+use Rattle.std.proofs.Common.{◌≡◌, ℕ, ◌+◌, ◌*◌, ◌<◌, ◌≤◌, sym, subst, mul_comm, add-mul, one-mul, arith}
 use Rattle.std.proofs.lemmas.Nat.{div-add-mod', div-mul-add, mod-mul-add, mod_below, div_below, mul-le}
 use Rattle.lattice.specs.declared.grid.Grid.{Grid}
 use Rattle.lattice.specs.declared.rows.Rows.{Rows}

@@ -1,5 +1,5 @@
 -- States made from their channels.
-use Rattle.std.proofs.Common.{◌≡◌, ℕ, zero, suc, ◌+◌, ◌-◌, ◌*◌, ◌/◌, ◌%◌, ◌^◌, ◌<◌, ◌≤◌, Bool, true, false, cond, eqb, sym, refl, ap, ◌∙◌, inl, inr, add-zero, mod-eq_of_lt, mul_comm, suc-add, one-mul, zero-add, zero-mul, one-add, arith}
+use Rattle.std.proofs.Common.{◌≡◌, ℕ, zero, suc, ◌+◌, ◌-◌, ◌*◌, ◌/◌, ◌%◌, ◌^◌, ◌<◌, ◌≤◌, Bool, true, false, cond, eqb, sym, ap, ◌∙◌, inl, inr, add-zero, mod-eq_of_lt, mul_comm, suc-add, one-mul, zero-add, zero-mul, one-add, arith}
 use native.Mathlib.Nat.{mod-one, pow-succ', add-mul-div_left, add-mul-mod_self_left, div-eq_of_lt}
 use lib.Bits.{bit_and, bit_or, and_high, and_mask, or_shifted, or_zero_r}
 use Rattle.std.proofs.lemmas.Nat.{pow_pos, pow-add, shr_high, mod_below, mod-pow-add}

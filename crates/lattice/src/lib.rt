@@ -1,4 +1,6 @@
 // The grid, its cells, and the vectors and states that stand in them.
+#![tactic(auto)]
+
 mod fault;
 mod grid;
 mod grids;

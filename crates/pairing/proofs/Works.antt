@@ -1,5 +1,5 @@
 -- A job's outcome, from what its calls answer and leave.
-use Rattle.std.proofs.Common.{◌≡◌, ℕ, ◌+◌, ◌*◌, ◌≤◌, Bool, not, ltb, List, length, take, drop, Some, None, Ok, Err, Option, Result, sym, refl, ap, ◌∙◌, subst, arith, length-append, length-drop, take_all}
+use Rattle.std.proofs.Common.{◌≡◌, ℕ, ◌+◌, ◌*◌, ◌≤◌, not, ltb, List, length, take, drop, Some, None, Ok, Err, Option, Result, sym, refl, ap, ◌∙◌, subst, arith, length-append, length-drop, take_all}
 use Rattle.gas.specs.Model.{GasModel}
 use Rattle.gas.specs.Laws.{GasLaws}
 use Rattle.twist.specs.Model.{TwistModel, TwistLaws}
@@ -12,11 +12,10 @@ use Rattle.step.specs.Results.{over}
 use Rattle.step.proofs.Again.{same}
 use Rattle.faults.specs.declared.job.JobFault.{JobFault}
 use Rattle.faults.specs.declared.call.CallFault.{CallFault}
-use Rattle.faults.specs.declared.call.CallFault.TheVariants.{Job, ShortMap, ShortField, Argument, TooManySteps, ShortOutput}
+use Rattle.faults.specs.declared.call.CallFault.TheVariants.{ShortMap, ShortField, Argument, TooManySteps, ShortOutput}
 use Rattle.job.specs.Jobs.{job_fault, parts_of, bytes_at, cells_in, head_in, run_in, tunnel_in}
-use Rattle.job.specs.Keeps.{Keeps}
 use Rattle.job.proofs.Sound.{sound_tunnel}
-use Rattle.report.specs.Reports.{snapshot, report_text, Snapshot}
+use Rattle.report.specs.Reports.{snapshot, report_text}
 use Rattle.calls.specs.Grounds.{or_then, fault_if, raised, open_fault, advance_fault, report_fault, patch_fits, step_limit, most_steps}
 use Rattle.calls.specs.Outcomes.{reply, leaves}
 use Rattle.calls.specs.Calls.{blank_run, Opened, Advanced, Reported}

@@ -1,4 +1,6 @@
 // A job on a gas and a source, and the choice of both.
+#![tactic(auto)]
+
 mod choice;
 mod jobs;
 

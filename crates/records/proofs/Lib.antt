@@ -1,6 +1,7 @@
 pub mod Numbers
 pub mod Headers
 pub mod Turns
+pub mod Judged
 pub mod Rows
 pub mod Meets
 pub mod Ordering

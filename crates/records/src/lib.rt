@@ -1,4 +1,6 @@
 // The record layer: a file as records behind each other, judged one by one.
+#![tactic(auto)]
+
 mod format;
 mod laws;
 mod payloads;

@@ -1,4 +1,6 @@
 // The report: its text, and writing it into a lent buffer.
+#![tactic(auto)]
+
 mod accounts;
 mod lines;
 mod patch;

@@ -26,8 +26,8 @@ fn stretch_totals<G: Gas>(
     requires columns { column + count ≤ grid.width }
     requires row { row < grid.height }
     requires field { grid.width * grid.height ≤ length field.now }
-    ensures particles { result.particles ≡ sum_n count (λ (k : ℕ). particles_at (model gas.now) field.now (cell_at grid.width (column + k) row)) }
-    ensures momentum { result.momentum ≡ sum_v count (λ (k : ℕ). momentum_at (model gas.now) field.now (cell_at grid.width (column + k) row)) }
+    ensures particles { result.particles ≡ sum_n count (λ (k : ℕ). particles_at (G.model gas.now) field.now (cell_at grid.width (column + k) row)) }
+    ensures momentum { result.momentum ≡ sum_v count (λ (k : ℕ). momentum_at (G.model gas.now) field.now (cell_at grid.width (column + k) row)) }
 {
     let start = row * grid.width() as usize + column;
     field_totals(gas, &field[start..start + count])
@@ -46,8 +46,8 @@ fn block_totals<G: Gas>(
     requires columns { column + columns ≤ grid.width }
     requires rows { row + rows ≤ grid.height }
     requires field { grid.width * grid.height ≤ length field.now }
-    ensures particles { result.particles ≡ sum_n rows (λ (j : ℕ). sum_n columns (λ (k : ℕ). particles_at (model gas.now) field.now (cell_at grid.width (column + k) (row + j)))) }
-    ensures momentum { result.momentum ≡ sum_v rows (λ (j : ℕ). sum_v columns (λ (k : ℕ). momentum_at (model gas.now) field.now (cell_at grid.width (column + k) (row + j)))) }
+    ensures particles { result.particles ≡ sum_n rows (λ (j : ℕ). sum_n columns (λ (k : ℕ). particles_at (G.model gas.now) field.now (cell_at grid.width (column + k) (row + j)))) }
+    ensures momentum { result.momentum ≡ sum_v rows (λ (j : ℕ). sum_v columns (λ (k : ℕ). momentum_at (G.model gas.now) field.now (cell_at grid.width (column + k) (row + j)))) }
 {
     let mut particles = 0;
     let mut along = 0;
@@ -69,7 +69,7 @@ fn patch_at<G: Gas>(gas: &G, grid: Grid, field: &[u8], patch: u32, column: u32, 
     requires column { column < grid.width / patch }
     requires row { row < grid.height / patch }
     requires field { grid.width * grid.height ≤ length field.now }
-    ensures { result ≡ patch_at (model gas.now) grid.width field.now patch column row }
+    ensures { result ≡ patch_at (G.model gas.now) grid.width field.now patch column row }
 {
     let side = patch as usize;
     let first_column = (column * patch) as usize;
@@ -95,7 +95,7 @@ fn put_patch_row<G: Gas>(
     requires some { 1 ≤ patch }
     requires row { row < grid.height / patch }
     requires field { grid.width * grid.height ≤ length field.now }
-    ensures { Puts (texts (grid.width / patch) (λ (c : ℕ). patch_line (patch_at (model gas.now) grid.width field.now patch c row))) out.old at result out.new }
+    ensures { Puts (texts (grid.width / patch) (λ (c : ℕ). patch_line (patch_at (G.model gas.now) grid.width field.now patch c row))) out.old at result out.new }
 {
     let mut end = at;
     for column in 0..grid.width() / patch {
@@ -116,7 +116,7 @@ pub(crate) fn put_patches<G: Gas>(
 ) -> usize
     requires some { 1 ≤ patch }
     requires field { grid.width * grid.height ≤ length field.now }
-    ensures { Puts (patch_lines (model gas.now) grid.width grid.height field.now patch) out.old at result out.new }
+    ensures { Puts (patch_lines (G.model gas.now) grid.width grid.height field.now patch) out.old at result out.new }
 {
     let mut end = at;
     for row in 0..grid.height() / patch {

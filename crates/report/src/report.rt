@@ -14,7 +14,7 @@ use lattice::Grid;
 /// The particles of all cells, and their momentum.
 fn all_totals<G: Gas>(gas: &G, field: &[u8]) -> Totals
     requires { length field.now ≤ 16384 }
-    ensures { result ≡ field_totals (model gas.now) field.now }
+    ensures { result ≡ field_totals (G.model gas.now) field.now }
 {
     field_totals(gas, field)
 }
@@ -32,7 +32,7 @@ fn put_report<G: Gas>(
 ) -> usize
     requires some { 1 ≤ patch }
     requires field { grid.width * grid.height ≤ length field.now }
-    ensures { Puts (report_text (shown (model gas.now) grid steps book.now.accounts field.now) patch) out.old at result out.new }
+    ensures { Puts (report_text (shown (G.model gas.now) grid steps book.now.accounts field.now) patch) out.old at result out.new }
 {
     let cells = &field[..grid.cells()];
     let first = put_step(steps, out, at);
@@ -52,7 +52,7 @@ fn measure_report<G: Gas>(
 ) -> usize
     requires some { 1 ≤ patch }
     requires field { grid.width * grid.height ≤ length field.now }
-    ensures { result ≡ min (length (report_text (shown (model gas.now) grid steps book.now.accounts field.now) patch)) (2 ^ 64 - 1) }
+    ensures { result ≡ min (length (report_text (shown (G.model gas.now) grid steps book.now.accounts field.now) patch)) (2 ^ 64 - 1) }
 {
     let mut nothing = [0u8; 0];
     put_report(gas, grid, steps, book, field, patch, &mut nothing, 0)
@@ -70,9 +70,9 @@ fn fill_report<G: Gas>(
 ) -> usize
     requires some { 1 ≤ patch }
     requires field { grid.width * grid.height ≤ length field.now }
-    requires fits { length (report_text (shown (model gas.now) grid steps book.now.accounts field.now) patch) ≤ length out.old }
-    ensures answer { result ≡ length (report_text (shown (model gas.now) grid steps book.now.accounts field.now) patch) }
-    ensures out { out.new ≡ over (report_text (shown (model gas.now) grid steps book.now.accounts field.now) patch) out.old }
+    requires fits { length (report_text (shown (G.model gas.now) grid steps book.now.accounts field.now) patch) ≤ length out.old }
+    ensures answer { result ≡ length (report_text (shown (G.model gas.now) grid steps book.now.accounts field.now) patch) }
+    ensures out { out.new ≡ over (report_text (shown (G.model gas.now) grid steps book.now.accounts field.now) patch) out.old }
 {
     put_report(gas, grid, steps, book, field, patch, out, 0)
 }
@@ -90,7 +90,7 @@ pub fn write_report<G: Gas>(
 ) -> Option<usize>
     requires some { 1 ≤ patch }
     requires field { grid.width * grid.height ≤ length field.now }
-    ensures { Written (report_text (shown (model gas.now) grid steps book.now.accounts field.now) patch) out.old result out.new }
+    ensures { Written (report_text (shown (G.model gas.now) grid steps book.now.accounts field.now) patch) out.old result out.new }
 {
     if measure_report(gas, grid, steps, book, field, patch) > out.len() {
         return None;

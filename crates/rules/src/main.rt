@@ -1,7 +1,9 @@
 // Lists the house rules of each gas: every state that a collision changes, with its outcome, and how many stay.
+#![tactic(auto)]
+
 ghost use Rattle.std.specs.Prelude.{◌≡◌, Bool};
 ghost use Rattle.gas.specs.Model.{states};
-ghost use Rattle.rules.specs.Staying.{staying as stayingOf};
+ghost use Rattle.rules.specs.Staying.{staying as staying_of};
 
 use gas::Gas;
 use hexagonal::HexagonalGas;
@@ -11,7 +13,7 @@ use std::io;
 
 /// How many states a collision under this twist leaves as they are.
 fn staying<G: Gas>(gas: &G, twist: bool) -> usize
-    ensures { result ≡ stayingOf (model gas.now) (entries gas.now) twist }
+    ensures { result ≡ staying_of (G.model gas.now) (G.entries gas.now) twist }
 {
     let mut count = 0;
     for state in 0..states_of(gas.channels()) {

@@ -1,5 +1,5 @@
 -- A list is its bytes by place.
-use Rattle.std.proofs.Common.{◌≡◌, ℕ, ◌<◌, List, length, get_or, arith}
+use Rattle.std.proofs.Common.{◌≡◌, ℕ, List, length, get_or, arith}
 use Rattle.std.proofs.lemmas.List.{ext_get_or}
 use Rattle.dynamics.specs.Tunnels.{listed}
 use Rattle.dynamics.proofs.Lists.{length-listed, get_d_listed}

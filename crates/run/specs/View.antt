@@ -6,7 +6,7 @@ use Rattle.dynamics.specs.Tunnels.{RunState}
 use Rattle.calls.specs.Logs.{Scene}
 use Rattle.run.specs.declared.run.Run.{Run}
 
-abbrev pub view : {G S : Type 0} → Gas.Ghosts G → Twist.Ghosts S → Run G S → RunState
+abbrev pub view : {G S : Type 0} (g : Gas.Ghosts G) (s : Twist.Ghosts S) → Run G S g s → RunState
 view g s r = record {
   gas = g.model r.gas;
   entries = g.entries r.gas;

@@ -1,10 +1,11 @@
 // Runs of the tunnel, and the calls on them.
+#![tactic(auto)]
+
 mod advancing;
 mod cells;
 mod judging;
 mod marking;
 mod opening;
-mod performing;
 mod reporting;
 mod run;
 mod settings;

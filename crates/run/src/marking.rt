@@ -1,7 +1,7 @@
 // Marks: the file that holds a run, its map and its field.
 ghost use Rattle.std.specs.Prelude.{◌≡◌, ℕ, ◌+◌, ◌*◌, ◌≤◌};
 ghost use Rattle.encode.specs.Encodings.{file_length};
-ghost use Rattle.dynamics.specs.Tunnels.{cells as cellCount};
+ghost use Rattle.dynamics.specs.Tunnels.{cells as cell_count};
 ghost use Rattle.calls.specs.Grounds.{mark_fault};
 ghost use Rattle.calls.specs.Outcomes.{reply};
 ghost use Rattle.calls.specs.Calls.{Marked};
@@ -18,12 +18,12 @@ use twist::TwistSource;
 impl<G: Gas, S: TwistSource> Run<G, S> {
     /// How many bytes the run's file has.
     fn file_length(&self) -> usize
-        ensures { result ≡ file_length (G.Gas.model self.now.gas) (cellCount (view G.Gas S.TwistSource self.now)) }
+        ensures { result ≡ file_length (G.Gas.model self.now.gas) (cell_count (view G.Gas S.TwistSource self.now)) }
     {
         320 + 2 * states_of(self.gas.channels()) + 2 * self.grid.cells()
     }
 
-    /// The first ground on which `mark` is refused.
+    /// The first ground_of on which `mark` is refused.
     fn judge_mark(&self, map: &[u8], field: &[u8], out: &[u8]) -> Result<(), CallFault>
         ensures { result ≡ reply (mark_fault (view G.Gas S.TwistSource self.now) map.now field.now out.now) tt }
     {
@@ -62,8 +62,8 @@ impl<G: Gas, S: TwistSource> Run<G, S> {
 
     /// How large an output `mark` is to be given: what it needs, and at most 24 bytes more.
     pub fn size(&self) -> usize
-        ensures enough { file_length (G.Gas.model self.now.gas) (cellCount (view G.Gas S.TwistSource self.now)) ≤ result }
-        ensures near { result ≤ file_length (G.Gas.model self.now.gas) (cellCount (view G.Gas S.TwistSource self.now)) + 24 }
+        ensures enough { file_length (G.Gas.model self.now.gas) (cell_count (view G.Gas S.TwistSource self.now)) ≤ result }
+        ensures near { result ≤ file_length (G.Gas.model self.now.gas) (cell_count (view G.Gas S.TwistSource self.now)) + 24 }
     {
         (self.file_length() + 15) / 16 * 16
     }

@@ -1,9 +1,9 @@
 -- The square gas keeps the laws.
-use Rattle.std.specs.Prelude.{◌≡◌, ℕ, zero, suc, ◌+◌, ◌<◌, ◌≤◌, Bool, true, false, cond, unsigned_abs, refl}
-use Rattle.std.proofs.Common.{ap, ap₂, ◌∙◌, arith}
+use Rattle.std.specs.Prelude.{◌≡◌, ℕ, zero, suc, ◌<◌, ◌≤◌, unsigned_abs, refl}
+use Rattle.std.proofs.Common.{arith}
 use Rattle.std.proofs.lemmas.Bool.Decides.{nat_tests}
 use Rattle.lattice.specs.Vectors.{negated, still}
-use Rattle.lattice.specs.Grids.{Lawful, cell_at}
+use Rattle.lattice.specs.Grids.{cell_at}
 use Rattle.lattice.proofs.Rings.{onward_in, backward_in, back_on, on_back}
 use Rattle.gas.specs.Laws.{GasLaws}
 use Rattle.gas.proofs.Moves.{Moves, moves_from, moves_in, moves_back, moves_channel_beyond, moves_cell_beyond}

@@ -1,4 +1,6 @@
 // The square gas: four channels, east, north, west and south.
+#![tactic(auto)]
+
 mod streaming;
 mod table;
 

@@ -1,10 +1,10 @@
 -- After k steps a run stands where the tunnel k steps on stands, so the next step goes on from there.
-use Rattle.std.proofs.Common.{◌≡◌, ℕ, zero, suc, ◌+◌, ◌*◌, ◌<◌, ◌≤◌, List, ◌++◌, length, get_or, take, drop, sym, refl, ap, ◌∙◌, subst, add-zero, add-suc, add-one, arith, take-append-drop}
+use Rattle.std.proofs.Common.{◌≡◌, ℕ, zero, suc, ◌+◌, ◌*◌, List, ◌++◌, length, take, drop, sym, refl, ap, ◌∙◌, subst, add-zero, add-suc, add-one, take-append-drop}
 use Rattle.std.proofs.lemmas.List.{take_at, drop_at}
 use Rattle.gas.specs.Model.{GasModel}
 use Rattle.twist.specs.Model.{TwistModel}
 use Rattle.book.specs.declared.account.Account.{Account}
-use Rattle.dynamics.specs.Tunnels.{RunState, Tunnel, cells}
+use Rattle.dynamics.specs.Tunnels.{Tunnel, cells}
 use Rattle.dynamics.specs.Step.{collided}
 use Rattle.dynamics.specs.Pushes.{stepped, after_steps}
 use Rattle.dynamics.specs.Soundness.{SoundTunnel}

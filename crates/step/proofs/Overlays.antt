@@ -1,9 +1,9 @@
 -- Buffers whose first places are filled, as lists.
-use Rattle.std.proofs.Common.{◌≡◌, ℕ, ◌+◌, ◌-◌, ◌*◌, ◌<◌, ◌≤◌, List, ◌++◌, length, get_or, take, drop, sym, refl, ap, ◌∙◌, subst, arith, length-drop, take-append-drop, length-take, get_or-drop, get_or-take, ext_get_or}
+use Rattle.std.proofs.Common.{◌≡◌, ℕ, ◌+◌, ◌≤◌, List, ◌++◌, length, take, drop, sym, ap, ◌∙◌, arith, length-drop, take-append-drop, length-take, get_or-drop, get_or-take, ext_get_or}
 use Rattle.std.proofs.lemmas.List.FromFn.{fill_by_all}
 use Rattle.std.proofs.lemmas.List.{take_at}
 use Rattle.dynamics.specs.Tunnels.{listed}
-use Rattle.dynamics.proofs.Lists.{length-listed, get_d_listed}
+use Rattle.dynamics.proofs.Lists.{length-listed}
 use Rattle.step.specs.Results.{Filled, over}
 
 -- a list whose first n are n is that long

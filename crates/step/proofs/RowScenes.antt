@@ -1,7 +1,6 @@
 -- A row of the collision, seen in the whole tunnel.
-use Rattle.std.proofs.Common.{◌≡◌, ℕ, zero, suc, ◌+◌, ◌*◌, ◌<◌, ◌≤◌, Bool, true, false, cond, List, [], length, get_or, take, sym, refl, ap, ◌∙◌, subst, ap₂, add-zero, add_assoc, add-suc, add-one, arith, get_or-take}
+use Rattle.std.proofs.Common.{◌≡◌, ℕ, zero, suc, ◌+◌, ◌*◌, ◌<◌, ◌≤◌, Bool, true, false, cond, List, [], sym, ap, ◌∙◌, add-zero, add_assoc, add-suc, arith, get_or-take}
 use Rattle.lattice.specs.Sums.{sum_n, count_n}
-use Rattle.lattice.specs.Grids.{column_of, row_of}
 use Rattle.lattice.proofs.Sums.{sum_n_bound, sum_n_same}
 use Rattle.lattice.proofs.Cells.{row_next, row_fits_lem, column_of_cell, row_of_cell}
 use Rattle.gas.specs.Model.{GasModel}

@@ -1,5 +1,5 @@
 -- A row's collision, one column more.
-use Rattle.std.proofs.Common.{◌≡◌, ℕ, ◌+◌, ◌<◌, ◌≤◌, Bool, true, false, cond, ◌≢◌, List, length, get_or, set, sym, refl, ap, ◌∙◌, subst, add-zero, arith, get_or-set_other, get_or-set_same, below_more}
+use Rattle.std.proofs.Common.{◌≡◌, ℕ, ◌+◌, ◌<◌, Bool, true, false, cond, ◌≢◌, List, length, set, refl, ◌∙◌, add-zero, arith, get_or-set_other, get_or-set_same, below_more}
 use Rattle.lattice.specs.Sums.{count_n}
 use Rattle.lattice.proofs.Sums.{sum_n_start, sum_n_more_yes, sum_n_more_no}
 use Rattle.step.specs.declared.cell.Collided.{Collided}

@@ -1,12 +1,12 @@
 -- The obstacles' accounts, one cell more.
-use Rattle.std.proofs.Common.{◌≡◌, ℕ, zero, suc, ◌+◌, ◌-◌, ◌*◌, ◌^◌, ◌<◌, ◌≤◌, Bool, true, false, cond, eqb, leb, List, length, get_or, set, ℤ, pos, ◌+ℤ◌, ◌*ℤ◌, nat_abs, sym, refl, ap, ◌∙◌, subst, ap₂, inl, inr, add-zero, arith, get_or-set_other, get_or-set_same, w64, SFits}
+use Rattle.std.proofs.Common.{◌≡◌, ℕ, zero, suc, ◌+◌, ◌-◌, ◌*◌, ◌^◌, ◌<◌, ◌≤◌, Bool, true, false, cond, List, length, get_or, ℤ, pos, ◌+ℤ◌, ◌*ℤ◌, nat_abs, sym, refl, ap, ◌∙◌, subst, ap₂, inl, inr, add-zero, arith, get_or-set_other, get_or-set_same, w64, SFits}
 use Rattle.std.proofs.lemmas.Int.{ints}
 use Rattle.std.proofs.lemmas.Bool.{eq-eqb, ne_eqb, cases_eq}
 use Rattle.std.proofs.lemmas.Bool.Decides.{nat_tests}
 use Rattle.lattice.specs.declared.vector.Vector.{Vector}
 use Rattle.lattice.specs.Sums.{sum_z}
 use Rattle.lattice.specs.Vectors.{times}
-use Rattle.lattice.proofs.Sums.{sum_start, sum_more, sum_nat_abs, cond_nat_abs}
+use Rattle.lattice.proofs.Sums.{sum_more, sum_nat_abs, cond_nat_abs}
 use Rattle.gas.specs.Model.{GasModel, momentum}
 use Rattle.gas.specs.Laws.{GasLaws}
 use Rattle.gas.proofs.Bounds.{momentum_small}
@@ -15,7 +15,7 @@ use Rattle.book.specs.Accounts.{accounts, none, grown, pushed}
 use Rattle.dynamics.specs.declared.role.Role.{Role}
 use Rattle.dynamics.specs.declared.role.Role.TheVariants.{Open, Wall, Fan}
 use Rattle.dynamics.specs.Roles.{role_of, is_wall_of}
-use Rattle.step.specs.Settling.{push_up_to, Settled, Modest, NoWall}
+use Rattle.step.specs.Settling.{push_up_to, Settled, NoWall}
 
 pub same_account : (a b : Account) → a.along ≡ b.along → a.across ≡ b.across → a ≡ b
 same_account a b p q = let f : ℤ → ℤ → Account = λ x y. record { along = x; across = y } in ap₂ f p q

@@ -1,12 +1,12 @@
 -- What the passes of one step make together.
-use Rattle.std.proofs.Common.{◌≡◌, ℕ, ◌+◌, ◌-◌, ◌*◌, ◌^◌, ◌<◌, ◌≤◌, Bool, true, false, cond, ◌&&◌, leb, ◌≢◌, List, length, get_or, take, set, ℤ, pos, ◌+ℤ◌, ◌*ℤ◌, nat_abs, sym, refl, ap, ◌∙◌, subst, inl, inr, arith, length-set, get_or-set_other, get_or-set_same}
+use Rattle.std.proofs.Common.{◌≡◌, ℕ, ◌+◌, ◌-◌, ◌*◌, ◌^◌, ◌<◌, ◌≤◌, Bool, true, false, cond, List, length, get_or, take, ℤ, pos, ◌*ℤ◌, nat_abs, sym, refl, ap, ◌∙◌, subst, inl, inr, arith, length-set, get_or-set_other, get_or-set_same}
 use native.Mathlib.Nat.{sub-zero}
 use Rattle.std.proofs.lemmas.List.FromFn.{fill_by_all}
 use Rattle.std.proofs.lemmas.Int.{ints}
 use Rattle.std.proofs.lemmas.Bool.{and_parts, leb-true, cases_eq}
 use Rattle.std.proofs.lemmas.Bool.Decides.{nat_tests}
 use Rattle.lattice.specs.declared.vector.Vector.{Vector}
-use Rattle.lattice.specs.Sums.{sum_z, count_n}
+use Rattle.lattice.specs.Sums.{count_n}
 use Rattle.lattice.specs.States.{holds}
 use Rattle.lattice.specs.Vectors.{times}
 use Rattle.lattice.proofs.Sums.{sum_same, sum_none}
@@ -15,10 +15,8 @@ use Rattle.gas.specs.Model.{GasModel, momentum}
 use Rattle.gas.specs.Streaming.{arriving}
 use Rattle.book.specs.declared.account.Account.{Account}
 use Rattle.book.specs.Accounts.{accounts, fan_account, none, grown, pushed, account_fits, most_push}
-use Rattle.dynamics.specs.declared.role.Role.{Role}
-use Rattle.dynamics.specs.declared.role.Role.TheVariants.{Open, Wall, Fan}
 use Rattle.dynamics.specs.Roles.{role_of, is_wall_of}
-use Rattle.dynamics.specs.Tunnels.{Tunnel, cells, listed}
+use Rattle.dynamics.specs.Tunnels.{Tunnel, cells}
 use Rattle.dynamics.specs.Step.{collided_at, collided, streamed}
 use Rattle.dynamics.specs.Pushes.{turns_at, push_on, book_after}
 use Rattle.dynamics.specs.Soundness.{SoundTunnel}

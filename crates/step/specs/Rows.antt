@@ -1,5 +1,5 @@
 -- A row of the collision, cell by cell, from the mark that the source has when the row begins.
-use Rattle.std.specs.Prelude.{◌≡◌, ℕ, ◌+◌, ◌*◌, ◌<◌, ◌≤◌, Bool, ◌&&◌, List, slice_index}
+use Rattle.std.specs.Prelude.{◌≡◌, ℕ, ◌+◌, ◌<◌, ◌≤◌, Bool, ◌&&◌, List, slice_index}
 use Rattle.lattice.specs.Sums.{count_n}
 use Rattle.gas.specs.Model.{GasModel, outcome}
 use Rattle.twist.specs.Model.{TwistModel}

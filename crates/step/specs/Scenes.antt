@@ -1,6 +1,5 @@
 -- The tunnel that a step is handed in parts: the gas, the source, the grid with period and step number, the book, and the cells' bytes.
 use Rattle.std.specs.Prelude.{ℕ, List, take}
-use Rattle.lattice.specs.declared.grid.Grid.{Grid}
 use Rattle.gas.specs.Model.{GasModel}
 use Rattle.twist.specs.Model.{TwistModel}
 use Rattle.book.specs.declared.account.Account.{Account}

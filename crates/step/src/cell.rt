@@ -1,7 +1,7 @@
 // The collision in one cell.
 ghost use Rattle.std.specs.Prelude.{◌≡◌, ℕ, ◌<◌, not, ◌&&◌, ◌||◌, ◌==◌};
 ghost use Rattle.lattice.specs.States.{holds};
-ghost use Rattle.dynamics.specs.Cells.{bounced, can_turn, turned as turnedState};
+ghost use Rattle.dynamics.specs.Cells.{bounced, can_turn, turned as turned_state};
 ghost use Rattle.step.specs.Rows.{cell_after};
 
 use dynamics::Role;
@@ -17,7 +17,7 @@ pub struct Collided {
 
 /// A wall's state: each particle goes to its opposite channel.
 fn bounce<G: Gas>(gas: &G, state: u8) -> u8
-    ensures { result ≡ bounced (model gas.now) state }
+    ensures { result ≡ bounced (G.model gas.now) state }
 {
     let mut made = 0;
     for channel in 0..gas.channels() {
@@ -30,7 +30,7 @@ fn bounce<G: Gas>(gas: &G, state: u8) -> u8
 
 /// Whether a particle comes against the fan, and east is empty.
 fn can_turn<G: Gas>(gas: &G, state: u8) -> bool
-    ensures { result ≡ can_turn (model gas.now) state }
+    ensures { result ≡ can_turn (G.model gas.now) state }
 {
     held(state, gas.opposite(0)) && !held(state, 0)
 }
@@ -45,7 +45,7 @@ fn held_turned(state: u8, against: u8, channel: u8) -> bool
 
 /// The state with that particle in east.
 fn turn<G: Gas>(gas: &G, state: u8) -> u8
-    ensures { result ≡ turnedState (model gas.now) state }
+    ensures { result ≡ turned_state (G.model gas.now) state }
 {
     let against = gas.opposite(0);
     let mut made = 0;
@@ -59,7 +59,7 @@ fn turn<G: Gas>(gas: &G, state: u8) -> u8
 
 /// What the collision makes of a cell with this role and state.
 pub fn collide_cell<G: Gas>(gas: &G, role: Role, acts: bool, twist: bool, state: u8) -> Collided
-    ensures { result ≡ cell_after (model gas.now) (entries gas.now) acts twist role state }
+    ensures { result ≡ cell_after (G.model gas.now) (G.entries gas.now) acts twist role state }
 {
     let outcome = gas.collide(twist, state);
     if let Role::Wall(_) = role {

@@ -1,4 +1,6 @@
 // The step: the collision row by row, then streaming, and the pushes on the book.
+#![tactic(auto)]
+
 mod cell;
 mod moment;
 mod rows;

@@ -49,7 +49,7 @@ fn is_clear(map: &[u8], start: usize, end: usize) -> bool
 pub fn settle_walls<G: Gas>(gas: &G, map: &[u8], field: &[u8], book: &mut Book)
     requires lengths { (length map.now ≡ length field.now) × (length map.now ≤ 16384) }
     requires modest { Modest book.old.accounts }
-    ensures { Settled (model gas.now) map.now field.now book.old.accounts book.new.accounts (length map.now) }
+    ensures { Settled (G.model gas.now) map.now field.now book.old.accounts book.new.accounts (length map.now) }
 {
     let mut place = 0;
     while place < map.len() {
@@ -73,7 +73,7 @@ pub fn settle_fan<G: Gas>(gas: &G, turned: u32, book: &mut Book)
     requires turned { turned ≤ 16384 }
     requires along { unsigned_abs (slice_index_or book.old.accounts 15 none).along ≤ 2 ^ 61 }
     requires across { unsigned_abs (slice_index_or book.old.accounts 15 none).across ≤ 2 ^ 61 }
-    ensures { book.new.accounts ≡ pushed book.old.accounts fan_account (times (pos 2) (times (pos turned) ((model gas.now).vector 0))) }
+    ensures { book.new.accounts ≡ pushed book.old.accounts fan_account (times (pos 2) (times (pos turned) ((G.model gas.now).vector 0))) }
 {
     let east = gas.vector(0);
     let along = counted(turned, east.along);

@@ -10,7 +10,7 @@ use lattice::Grid;
 pub fn stream_rows<G: Gas>(gas: &G, grid: Grid, from: &[u8], field: &mut [u8])
     requires from { grid.width * grid.height ≤ length from.now }
     requires field { grid.width * grid.height ≤ length field.old }
-    ensures { Filled (grid.width * grid.height) (arriving (model gas.now) grid.width grid.height from.now) field.old field.new }
+    ensures { Filled (grid.width * grid.height) (arriving (G.model gas.now) grid.width grid.height from.now) field.old field.new }
 {
     let width = grid.width() as usize;
     let height = grid.height() as usize;

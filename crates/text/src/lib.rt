@@ -1,4 +1,6 @@
 // Text in a lent buffer: bytes and decimal numbers, one behind the other.
+#![tactic(auto)]
+
 mod digits;
 mod putting;
 

@@ -1,4 +1,5 @@
 // Calls of a run, tried on small grids.
+#![tactic(auto)]
 
 #[cfg(test)]
 mod calls;

@@ -1,4 +1,6 @@
 // The program: it reads the first line and a job file from standard input, and prints its answer.
+#![tactic(auto)]
+
 use front::{LONGEST_INPUT, answer};
 use std::io::Read;
 

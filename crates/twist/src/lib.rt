@@ -1,4 +1,6 @@
 // The interface that every twist source keeps, and the sources there are.
+#![tactic(auto)]
+
 mod laws;
 mod mark;
 mod parity;

@@ -1,5 +1,5 @@
 // The source that goes by the parity of column, row and step.
-ghost use Rattle.twist.specs.Kinds.{parity as parityModel};
+ghost use Rattle.twist.specs.Kinds.{parity as parity_model};
 ghost use Rattle.twist.specs.Sources.{parity_laws};
 ghost use Rattle.std.proofs.Common.{rules};
 
@@ -11,7 +11,7 @@ use super::mark::UnlawfulMark;
 pub struct Parity;
 
 impl TwistSource for Parity {
-    ghost model = { λ _. parityModel };
+    ghost model = { λ _. parity_model };
 
     ghost mark = { λ _. 0 };
 

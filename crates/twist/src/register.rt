@@ -1,6 +1,6 @@
 // The source that is a shift register.
 ghost use Rattle.std.specs.Prelude.{◌≡◌, ◌≤◌};
-ghost use Rattle.twist.specs.Kinds.{shifted, register as registerModel};
+ghost use Rattle.twist.specs.Kinds.{shifted, register as register_model};
 ghost use Rattle.twist.specs.Sources.{register_laws};
 ghost use Rattle.std.proofs.Common.{rules, arith};
 
@@ -32,14 +32,14 @@ fn shift(mark: u32) -> u32
 
 impl Register {
     pub fn new() -> Register
-        ensures { result.mark ≡ registerModel.first }
+        ensures { result.mark ≡ register_model.first }
     {
         Register { mark: FIRST }
     }
 }
 
 impl TwistSource for Register {
-    ghost model = { λ _. registerModel };
+    ghost model = { λ _. register_model };
 
     ghost mark = { λ s. s.mark };
 

@@ -1,5 +1,5 @@
 // A source that stands on any other.
-ghost use Rattle.twist.specs.Kinds.{turned as turnedModel};
+ghost use Rattle.twist.specs.Kinds.{turned as turned_model};
 ghost use Rattle.twist.specs.Sources.{turned_laws};
 ghost use Rattle.std.proofs.Common.{rules};
 
@@ -13,7 +13,7 @@ pub struct Turned<S: TwistSource> {
 }
 
 impl<S: TwistSource> TwistSource for Turned<S> {
-    ghost model = { λ s. turnedModel (S.TwistSource.model s.lower) };
+    ghost model = { λ s. turned_model (S.TwistSource.model s.lower) };
 
     ghost mark = { λ s. S.TwistSource.mark s.lower };
 

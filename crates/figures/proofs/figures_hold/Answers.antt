@@ -1,8 +1,8 @@
-use Rattle.std.proofs.Common.{◌≡◌, Bool, true, false, refl}
+use Rattle.std.proofs.Common.{◌≡◌, true, false, refl}
 use Rattle.lattice.specs.Sums as sums
 use Rattle.square.specs.Square.{square}
 use Rattle.dynamics.specs.declared.role.Role.TheVariants.{Fan}
-use Rattle.figures.specs.Figures.{becomes, collides, Figures}
+use Rattle.figures.specs.Figures.{becomes, collides}
 use Rattle.figures.proofs.figures_hold.Goals as goal
 
 pub returns : goal.returns

@@ -1,4 +1,4 @@
-use Rattle.std.proofs.Common.{◌≡◌, ℕ, ◌+◌, ◌^◌, ◌≤◌, Bool, eqb, sym, ap, ◌∙◌, arith}
+use Rattle.std.proofs.Common.{◌≡◌, ℕ, ◌^◌, Bool, eqb, sym, ap, ◌∙◌, arith}
 use Rattle.std.proofs.lemmas.Bool.{eq-eqb, ne_eqb}
 use Rattle.lattice.proofs.Sums.{sum_n_start, sum_n_more_yes, sum_n_more_no}
 use Rattle.lattice.specs.Sums.{count_n}
@@ -27,5 +27,5 @@ loop-state-preserved g c =
 pub returns : goal.returns
 returns g c =
     let m = g.G.Gas.model c.args.gas.now in
-    let end : c.loop-state.state ≡ states m = omega (arith, c.loop-state-test.false, c.states-of-state-end.ensures, ap (λ (q : ℕ). 2 ^ q) c.channels.ensures) in
+    let end : c.loop-state.state ≡ states m = omega (arith, c.loop-state-test.false, c.states_of-state-end.ensures, ap (λ (q : ℕ). 2 ^ q) c.channels.ensures) in
     c.loop-state.invariant.1 ∙ ap (λ (n : ℕ). count_n n (λ k. eqb (outcome m (g.G.Gas.entries c.args.gas.now) c.args.twist k) k)) end

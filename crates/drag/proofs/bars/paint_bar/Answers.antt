@@ -16,7 +16,7 @@ loop-row-preserved g c =
     let kind = c.args.kind in
     let map = c.loop-row.map in
     let painted : List ℕ → List ℕ = λ m. set m (cell_at s.width column row) kind in
-    let unfaulted : paint_fault s column row kind map ≡ None = reply-none _ tt tt c.in-ok-paint.ensures.answer in
+    let unfaulted : paint_fault s column row kind map ≡ None = reply-none _ tt tt c.in_ok-paint.ensures.answer in
     let next : row + 1 ≡ suc row = omega arith in
-    c.paint.ensures.map-is ∙ ap (λ (o : Option CallFault). leaves o map (painted map)) unfaulted ∙ ap painted c.loop-row.invariant
+    c.paint.ensures.map_is ∙ ap (λ (o : Option CallFault). leaves o map (painted map)) unfaulted ∙ ap painted c.loop-row.invariant
     ∙ ap (λ (n : ℕ). barred s.width column kind n c.args.map.now) (sym next)

@@ -27,12 +27,12 @@ fanned_steps {s} {t} {p} f = ap (λ (v : RunState). v.steps) f.run ∙ period_al
 advanced_steps : {s t : RunState} {k n : ℕ} {map field spare field' spare' : List ℕ} → Advanced s k map field spare (Ok n) t field' spare' → n ≡ s.steps + k
 advanced_steps {s} {t} {k} {n} {map} {field} {spare} a = answered (advance_fault s k map field spare) n (s.steps + k) a.answer
 
-pub returns-in-err-steps : goal.returns-in-err-steps
-returns-in-err-steps c =
-    let told = err_from_is_err_and c.from-residual-in-err-steps.result c.from-residual-in-err-steps.ensures.1 in
+pub returns-in_err-steps : goal.returns-in_err-steps
+returns-in_err-steps c =
+    let told = err_from_is_err_and c.from_residual-in_err-steps.result c.from_residual-in_err-steps.ensures.1 in
     subst (λ r. IfOk r (λ drag. drag.steps ≡ 200)) (sym told.1) tt
 
 pub returns : goal.returns
 returns c =
-    advanced_steps c.in-ok-steps.ensures
-    ∙ ap (λ (n : ℕ). n + 200) {y = 0} (fanned_steps c.fan.ensures ∙ blanked_steps c.in-ok-blank.ensures)
+    advanced_steps c.in_ok-steps.ensures
+    ∙ ap (λ (n : ℕ). n + 200) {y = 0} (fanned_steps c.fan.ensures ∙ blanked_steps c.in_ok-blank.ensures.outcome)

@@ -5,4 +5,4 @@ use Rattle.encode.proofs.record.put_record.Goals as goal
 
 pub returns : goal.returns
 unfolding record_of
-returns c = puts_then (omega arith) (puts_same c.header-of.ensures c.put-bytes-begin.ensures) c.put-bytes.ensures
+returns c = puts_then (omega arith) (puts_same c.header_of.ensures c.put_bytes-begin.ensures) c.put_bytes.ensures

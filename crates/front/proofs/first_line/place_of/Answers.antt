@@ -1,4 +1,4 @@
-use Rattle.std.proofs.Common.{◌≡◌, eqb, length, get_or, sym, arith, rules, below_more}
+use Rattle.std.proofs.Common.{eqb, length, get_or, sym, arith, rules, below_more}
 use Rattle.std.proofs.lemmas.Bool.{eq-eqb, ne_eqb}
 use Rattle.lattice.proofs.Firsts.{first-none, first_some}
 use Rattle.front.proofs.first_line.place_of.Goals as goal

@@ -1,21 +1,21 @@
-use Rattle.std.proofs.Common.{◌≡◌, ℕ, ◌<◌, ◌≤◌, length, Some, sym, ap, ◌∙◌, inl, inr, arith, rules}
+use Rattle.std.proofs.Common.{◌<◌, ◌≤◌, length, Some, sym, ap, ◌∙◌, inl, inr, arith, rules}
 use Rattle.std.proofs.lemmas.Bool.{eqb-true}
 use Rattle.front.specs.Digits.{digits_value}
 use Rattle.front.proofs.Numbers.{empty_none, long_none, zero_none, stray_none, large_none, one_or_more, some_number}
 use Rattle.front.proofs.number.number_up_to.Goals as goal
 
-pub returns-then-is-empty : goal.returns-then-is-empty
-returns-then-is-empty c =
-    elim c.then-is-empty.either [
-      | inl e ↦ record { value = sym (empty_none c.args.most c.requires c.args.text.now (eqb-true _ 0 (sym c.is-empty.ensures ∙ e))); ranged = tt }
+pub returns-then-is_empty : goal.returns-then-is_empty
+returns-then-is_empty c =
+    elim c.then-is_empty.either [
+      | inl e ↦ record { value = sym (empty_none c.args.most c.requires c.args.text.now (eqb-true _ 0 (sym c.is_empty.ensures ∙ e))); ranged = tt }
       | inr p ↦ record { value = sym (long_none c.args.most c.requires c.args.text.now p.1); ranged = tt }
     ]
 
 pub returns-then-text-eq48 : goal.returns-then-text-eq48
 returns-then-text-eq48 c = record { value = sym (zero_none c.args.most c.requires c.args.text.now c.if-text-eq48.true); ranged = tt }
 
-pub returns-in-default : goal.returns-in-default
-returns-in-default c = record { value = sym (stray_none c.args.most c.requires c.args.text.now c.in-default.ensures); ranged = tt }
+pub returns-in_default : goal.returns-in_default
+returns-in_default c = record { value = sym (stray_none c.args.most c.requires c.args.text.now c.in_default.ensures); ranged = tt }
 
 pub returns-then-value-most : goal.returns-then-value-most
 returns-then-value-most c =

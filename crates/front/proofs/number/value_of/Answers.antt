@@ -1,4 +1,4 @@
-use Rattle.std.proofs.Common.{◌≡◌, ℕ, ◌+◌, ◌-◌, ◌*◌, ◌^◌, ◌<◌, ◌≤◌, length, get_or, drop, sym, ap, ◌∙◌, inl, inr, add-one, arith}
+use Rattle.std.proofs.Common.{◌≡◌, ℕ, ◌+◌, ◌*◌, ◌^◌, ◌≤◌, drop, sym, ap, ◌∙◌, inl, inr, add-one, arith}
 use native.Mathlib.Nat.{pow-le-pow_right, pow-succ'}
 use Rattle.std.proofs.lemmas.List.{at_drop_more, at_drop_all}
 use Rattle.std.specs.Str.{all_ascii_digits}
@@ -15,14 +15,14 @@ returns-then-digit-lt48 c =
     ∙ no_digit text i c.loop-digit-test.true
     (elim c.then-digit-lt48.branch [ then-digit-lt48-via-then-digit-lt48 w ↦ inl w.if-digit-lt48.true | then-digit-lt48-via-else-digit-lt48+then-digit-gt57 w ↦ inr w.if-digit-gt57.true ])
 
-pub overflow-mul-value : goal.overflow-mul-value
-overflow-mul-value c =
+pub overflow_mul-value : goal.overflow_mul-value
+overflow_mul-value c =
     let short : c.loop-digit.digit-index ≤ 4 = omega (arith, c.requires, c.loop-digit-test.true) in
     let few : 10 ^ c.loop-digit.digit-index ≤ 10 ^ 4 = pow-le-pow_right (omega arith) short in
     omega (arith, c.loop-digit.invariant.0)
 
-pub overflow-add-value : goal.overflow-add-value
-overflow-add-value c =
+pub overflow_add-value : goal.overflow_add-value
+overflow_add-value c =
     let short : c.loop-digit.digit-index ≤ 4 = omega (arith, c.requires, c.loop-digit-test.true) in
     let few : 10 ^ c.loop-digit.digit-index ≤ 10 ^ 4 = pow-le-pow_right (omega arith) short in
     omega (arith, c.loop-digit.invariant.0)

@@ -1,5 +1,5 @@
-use Rattle.std.proofs.Common.{◌≡◌, get_or}
-use Rattle.lattice.specs.States.{holds, state_of}
+use Rattle.std.proofs.Common.{◌≡◌}
+use Rattle.lattice.specs.States.{state_of}
 use Rattle.gas.specs.Streaming.{comes_by}
 use Rattle.gas.proofs.Gas.arriving.Given as goal
 

@@ -1,4 +1,4 @@
-use Rattle.std.proofs.Common.{◌≡◌, ℕ, ◌+◌, ◌<◌, ◌≤◌, true, false, ℤ, ◌+ℤ◌, nat_abs, sym, ap, ◌∙◌, subst, arith}
+use Rattle.std.proofs.Common.{◌≡◌, ◌+◌, ◌<◌, ◌≤◌, true, false, ℤ, ◌+ℤ◌, nat_abs, sym, ap, ◌∙◌, subst, arith}
 use Rattle.std.proofs.lemmas.Int.{ints}
 use Rattle.lattice.specs.declared.vector.Vector.{Vector}
 use Rattle.lattice.specs.States.{holds, momentum}
@@ -10,8 +10,8 @@ use Rattle.gas.proofs.Gas.momentum.Goals.{then-held, else-held}
 pub loop-channel-init : goal.loop-channel-init
 loop-channel-init g c = (sum_start _, sum_start _)
 
-pub overflow-add-along : goal.overflow-add-along
-overflow-add-along g c =
+pub overflow_add-along : goal.overflow_add-along
+overflow_add-along g c =
     let m = g.Self.Gas.model c.args.self.now in
     let laws = g.met.Self.Gas.lawful c.args.self.now in
     let q = c.loop-channel.channel in
@@ -21,8 +21,8 @@ overflow-add-along g c =
     let v : nat_abs c.vector-vector.result.along ≤ 2 = subst (λ (z : Vector). nat_abs z.along ≤ 2) (sym c.vector-vector.ensures) (laws.short q (omega arith)).0 in
     omega (arith, ints)
 
-pub overflow-add-across : goal.overflow-add-across
-overflow-add-across g c =
+pub overflow_add-across : goal.overflow_add-across
+overflow_add-across g c =
     let m = g.Self.Gas.model c.args.self.now in
     let laws = g.met.Self.Gas.lawful c.args.self.now in
     let q = c.loop-channel.channel in

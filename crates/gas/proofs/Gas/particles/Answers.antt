@@ -1,5 +1,5 @@
-use Rattle.std.proofs.Common.{◌≡◌, ◌<◌, ◌≤◌, sym, ◌∙◌, arith}
-use Rattle.lattice.specs.States.{holds, particles}
+use Rattle.std.proofs.Common.{sym, ◌∙◌, arith}
+use Rattle.lattice.specs.States.{holds}
 use Rattle.lattice.proofs.Sums.{sum_n_start, sum_n_more_yes, sum_n_more_no}
 use Rattle.lattice.proofs.Making.{particles_few}
 use Rattle.gas.proofs.Gas.particles.Goals as goal
@@ -8,8 +8,8 @@ use Rattle.gas.proofs.Gas.particles.Goals.{then-held, else-held}
 pub loop-channel-init : goal.loop-channel-init
 loop-channel-init g c = sum_n_start _
 
-pub overflow-add-count : goal.overflow-add-count
-overflow-add-count g c =
+pub overflow_add-count : goal.overflow_add-count
+overflow_add-count g c =
     let few = (g.met.Self.Gas.lawful c.args.self.now).few in
     let end = c.channels-channel-end.ensures in
     let small = particles_few c.loop-channel.channel c.args.state in

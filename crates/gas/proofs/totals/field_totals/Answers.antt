@@ -1,4 +1,4 @@
-use Rattle.std.proofs.Common.{◌≡◌, ℕ, ◌+◌, ◌*◌, ◌<◌, ◌≤◌, length, get_or, ℤ, ◌+ℤ◌, nat_abs, sym, ap, ◌∙◌, subst, arith}
+use Rattle.std.proofs.Common.{◌≡◌, ℕ, ◌*◌, ◌≤◌, length, get_or, ℤ, nat_abs, sym, ap, ◌∙◌, subst, arith}
 use Rattle.std.proofs.lemmas.Int.{ints}
 use Rattle.lattice.specs.declared.vector.Vector.{Vector}
 use Rattle.lattice.specs.Sums.{sum_n, sum_z}
@@ -11,8 +11,8 @@ use Rattle.gas.proofs.totals.field_totals.Goals as goal
 pub loop-state-init : goal.loop-state-init
 loop-state-init g c = (sum_n_start _, sum_start _, sum_start _)
 
-pub overflow-add-particles : goal.overflow-add-particles
-overflow-add-particles g c =
+pub overflow_add-particles : goal.overflow_add-particles
+overflow_add-particles g c =
     let m = g.G.Gas.model c.args.gas.now in
     let laws = g.met.G.Gas.lawful c.args.gas.now in
     let xs = c.args.field.now in
@@ -21,8 +21,8 @@ overflow-add-particles g c =
     let one = particles_small m laws (get_or xs i 0) in
     omega (arith, c.requires, c.loop-state-test.true, c.from-particles.ensures, c.particles.ensures)
 
-pub overflow-add-along : goal.overflow-add-along
-overflow-add-along g c =
+pub overflow_add-along : goal.overflow_add-along
+overflow_add-along g c =
     let m = g.G.Gas.model c.args.gas.now in
     let laws = g.met.G.Gas.lawful c.args.gas.now in
     let xs = c.args.field.now in
@@ -33,8 +33,8 @@ overflow-add-along g c =
     let one : nat_abs c.momentum-momentum.result.along ≤ 14 = subst (λ (v : Vector). nat_abs v.along ≤ 14) (sym c.momentum-momentum.ensures) (momentum_small m laws (get_or xs i 0) m.channels (omega arith)).0 in
     omega (arith, ints)
 
-pub overflow-add-across : goal.overflow-add-across
-overflow-add-across g c =
+pub overflow_add-across : goal.overflow_add-across
+overflow_add-across g c =
     let m = g.G.Gas.model c.args.gas.now in
     let laws = g.met.G.Gas.lawful c.args.gas.now in
     let xs = c.args.field.now in

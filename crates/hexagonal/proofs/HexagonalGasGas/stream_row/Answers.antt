@@ -5,4 +5,4 @@ use Rattle.hexagonal.specs.Lawful.{hexagonal_comes}
 use Rattle.hexagonal.proofs.HexagonalGasGas.stream_row.Goals as goal
 
 pub returns : goal.returns
-returns c = c.stream-hexagonal-row.ensures hexagonal record { count = omega arith; comes = hexagonal_comes }
+returns c = c.stream_hexagonal_row.ensures hexagonal record { count = omega arith; comes = hexagonal_comes }

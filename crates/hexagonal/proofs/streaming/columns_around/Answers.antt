@@ -1,5 +1,5 @@
 -- In an even row the diagonals touch the column before and this one, in an odd row this one and the next.
-use Rattle.std.proofs.Common.{◌≡◌, ◌+◌, ◌%◌, sym, ◌∙◌, arith}
+use Rattle.std.proofs.Common.{◌≡◌, ◌+◌, ◌∙◌, arith}
 use Rattle.lattice.specs.Grids.{backward}
 use Rattle.lattice.proofs.Rings.{wrap_in, backward_next}
 use Rattle.hexagonal.proofs.streaming.columns_around.Goals as goal

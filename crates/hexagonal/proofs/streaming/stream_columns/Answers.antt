@@ -1,5 +1,5 @@
 -- The first column, the columns between and the last: each is written once.
-use Rattle.std.proofs.Common.{◌≡◌, ℕ, ◌-◌, ◌<◌, ◌≢◌, List, length, refl, ap, ◌∙◌, arith, length-set, get_or-set_other}
+use Rattle.std.proofs.Common.{ℕ, ◌-◌, ◌<◌, ◌≢◌, List, length, refl, ap, ◌∙◌, arith, length-set, get_or-set_other}
 use lib.Bits.{bit_and}
 use Rattle.lattice.specs.declared.rows.Rows.{Rows}
 use Rattle.lattice.specs.Sources.{gathered}
@@ -16,7 +16,7 @@ by_columns from rows mask columns = bit_and (gathered 7 from (sources rows colum
 pub loop-column-init : goal.loop-column-init
 loop-column-init c =
     let by = by_columns c.args.from.now c.args.rows c.args.mask in
-    (write_more (λ k. by (columns_around c.args.width c.args.odd k)) c.args.to.now 0 c.gather.result (omega arith) (c.gather.ensures ∙ ap by c.columns-around.ensures) (λ k l. absurd (omega arith)), λ k l. refl)
+    (write_more (λ k. by (columns_around c.args.width c.args.odd k)) c.args.to.now 0 c.gather.result (omega arith) (c.gather.ensures ∙ ap by c.columns_around.ensures) (λ k l. absurd (omega arith)), λ k l. refl)
 
 pub loop-column-preserved : goal.loop-column-preserved
 loop-column-preserved c =
@@ -35,7 +35,7 @@ returns c =
     let room : last < length c.loop-column.to = omega (arith, length-set c.args.to.now 0 c.gather.result) in
     record {
       row = λ k l. write_more (λ j. by (columns_around c.args.width c.args.odd j)) c.loop-column.to last c.gather-2.result room
-          (c.gather-2.ensures ∙ ap by c.columns-around-2.ensures) (λ j h. c.loop-column.invariant.0 j (omega arith)) k (omega arith);
+          (c.gather-2.ensures ∙ ap by c.columns_around-2.ensures) (λ j h. c.loop-column.invariant.0 j (omega arith)) k (omega arith);
       rest = λ k l.
           let apart : k ≢ last = omega arith in
           let apart' : k ≢ 0 = omega arith in

@@ -1,10 +1,10 @@
-use Rattle.std.proofs.Common.{◌≡◌, ℕ, ◌+◌, ◌*◌, ◌<◌, ◌≢◌, length, get_or, set, ℤ, sym, ap, ◌∙◌, arith, length-set, get_or-set_other, get_or-set_same, to_z-of_z, w64, SFits, to_z, of_z, below_more}
+use Rattle.std.proofs.Common.{◌<◌, ◌≢◌, length, sym, ◌∙◌, arith, length-set, get_or-set_other, get_or-set_same, to_z-of_z, w64, below_more}
 use borrow.Author.Rules.{sfits_of}
 use Rattle.std.proofs.lemmas.List.{ext_get_or}
 use Rattle.book.specs.Accounts.{accounts, none}
 use Rattle.dynamics.specs.Tunnels.{listed}
 use Rattle.dynamics.proofs.Lists.{length-listed, get_d_listed}
-use Rattle.job.specs.Books.{number_of, account_in, accounts_of}
+use Rattle.job.specs.Books.{account_in, accounts_of}
 use Rattle.job.proofs.accounts.read_book.Goals as goal
 
 pub loop-k-preserved : goal.loop-k-preserved
@@ -12,8 +12,8 @@ loop-k-preserved c =
     let k = c.loop-k.k in
     let inv = c.loop-k.invariant in
     let within : k < length c.loop-k.accounts = omega arith in
-    let along = to_z-of_z {w = w64} {z = c.read-number.result} (sfits_of {w = w64} {z = c.read-number.result} c.read-number.type-inv) ∙ c.read-number.ensures in
-    let across = to_z-of_z {w = w64} {z = c.read-number-in-loop-k.result} (sfits_of {w = w64} {z = c.read-number-in-loop-k.result} c.read-number-in-loop-k.type-inv) ∙ c.read-number-in-loop-k.ensures in (
+    let along = to_z-of_z {w = w64} {z = c.read_number.result} (sfits_of {w = w64} {z = c.read_number.result} c.read_number.type_inv) ∙ c.read_number.ensures in
+    let across = to_z-of_z {w = w64} {z = c.read_number-in-loop-k.result} (sfits_of {w = w64} {z = c.read_number-in-loop-k.result} c.read_number-in-loop-k.type_inv) ∙ c.read_number-in-loop-k.ensures in (
       simp length-set inv.0,
       below_more _ _
           (λ i l. let ne : i ≢ k = omega arith in get_or-set_other _ _ _ _ none ne ∙ inv.1 i l)

@@ -1,4 +1,4 @@
-use Rattle.std.proofs.Common.{◌≡◌, ltb, length, get_or, sym, arith, below_more}
+use Rattle.std.proofs.Common.{ltb, length, get_or, sym, arith, below_more}
 use Rattle.std.proofs.lemmas.Bool.{lt-ltb, le-ltb}
 use Rattle.lattice.proofs.Firsts.{first-none, first_some}
 use Rattle.job.proofs.payloads.first_above.Goals as goal

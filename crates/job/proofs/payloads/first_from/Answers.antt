@@ -1,4 +1,4 @@
-use Rattle.std.proofs.Common.{◌≡◌, leb, length, get_or, sym, arith, below_more}
+use Rattle.std.proofs.Common.{leb, length, get_or, sym, arith, below_more}
 use Rattle.std.proofs.lemmas.Bool.{le-leb, lt-leb}
 use Rattle.lattice.proofs.Firsts.{first-none, first_some}
 use Rattle.job.proofs.payloads.first_from.Goals as goal

@@ -1,4 +1,4 @@
-use Rattle.std.proofs.Common.{◌≡◌, ◌+◌, ◌*◌, ◌%◌, ◌^◌, ap, ◌∙◌, arith}
+use Rattle.std.proofs.Common.{◌≡◌, ◌*◌, ◌%◌, ◌^◌, ap, ◌∙◌, arith}
 use lib.Bits.{bit_or, or_shifted_r}
 use Rattle.std.proofs.lemmas.Nat.{one_shl}
 use Rattle.lattice.proofs.states.with_particle.Goals as goal

@@ -1,4 +1,4 @@
-use Rattle.std.proofs.Common.{◌≡◌, ℕ, List, drop, vec_items, Result, sym, ap, ◌∙◌}
+use Rattle.std.proofs.Common.{◌≡◌, ℕ, List, vec_items, Result, ap, ◌∙◌}
 use Rattle.std.proofs.lemmas.List.{take_rest}
 use Rattle.faults.specs.declared.call.CallFault.{CallFault}
 use Rattle.pairing.specs.Pairings.{chosen}
@@ -12,5 +12,5 @@ returns-in-Ok c =
     let input = c.args.input.now in
     let line = c.in-Ok.line in
     let rest = take_rest input line.file_start in
-    made_as _ (λ v. vec_items v ≡ answer_to input) c.answer-job.result
-    (λ v h. h ∙ ap (λ (file : List ℕ). printed (chosen line.steps line.patch file)) rest ∙ ap (λ (r : Result FirstLine CallFault). printed (judged_from input r)) c.in-Ok.ensures.answer) c.answer-job.ensures
+    made_as _ (λ v. vec_items v ≡ answer_to input) c.answer_job.result
+    (λ v h. h ∙ ap (λ (file : List ℕ). printed (chosen line.steps line.patch file)) rest ∙ ap (λ (r : Result FirstLine CallFault). printed (judged_from input r)) c.in-Ok.ensures.answer) c.answer_job.ensures

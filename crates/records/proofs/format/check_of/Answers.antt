@@ -4,8 +4,8 @@ use Rattle.std.proofs.lemmas.Nat.{mul-le}
 use Rattle.records.specs.Format.{weighed}
 use Rattle.records.proofs.format.check_of.Goals as goal
 
-pub overflow-mul-sum : goal.overflow-mul-sum
-overflow-mul-sum c = omega (arith, mul-le (c.loop-i.i + 1) c.from.result 16777216 255 (omega arith) (omega arith))
+pub overflow_mul-sum : goal.overflow_mul-sum
+overflow_mul-sum c = omega (arith, mul-le (c.loop-i.i + 1) c.from.result 16777216 255 (omega arith) (omega arith))
 
 pub loop-i-preserved : goal.loop-i-preserved
 loop-i-preserved c =

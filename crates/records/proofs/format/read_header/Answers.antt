@@ -20,6 +20,6 @@ returns-in-len8-up c =
     let bs = c.args.bytes.now in
     let long : 8 ≤ length bs = search rules in
     let two = two_numbers bs long in
-    let size : c.from-le-bytes-length.result ≡ (header_of bs).length = omega arith in
-    let check : c.from-le-bytes-check.result ≡ (header_of bs).check = omega arith in
+    let size : c.from_le_bytes-length.result ≡ (header_of bs).length = omega arith in
+    let check : c.from_le_bytes-check.result ≡ (header_of bs).check = omega arith in
     (long, cc, take_rest bs 8)

@@ -1,46 +1,56 @@
-use Rattle.std.proofs.Common.{◌≡◌, ◌+◌, ◌<◌, length, Err, arith, length-drop, rules}
-use native.Mathlib.Nat.{sub-zero}
-use Rattle.std.proofs.lemmas.Bool.Decides.{nat_tests}
-use Rattle.faults.specs.declared.record.RecordFault.TheVariants.{Kind, Ending}
-use Rattle.records.specs.Walk.{turn}
+use Rattle.std.proofs.Common.{◌≡◌, Ok, Err, sym, ap, ◌∙◌}
+use Rattle.records.specs.declared.sequence.OrderFault.{OrderFault}
+use Rattle.records.specs.declared.sequence.Step.{Step}
+use Rattle.records.specs.declared.sequence.Step.TheVariants.{Known}
+use Rattle.records.specs.declared.sequence.Next.{Next}
+use Rattle.records.specs.Orders.{answer}
+use Rattle.records.specs.Walk.{behind, placed}
+use Rattle.records.proofs.Judged.{IsRead, check_turn, placed_turn, skipped_turn, more_turn, done_turn, ending_turn}
 use Rattle.records.proofs.walking.judge_record.Goals as goal
+use Rattle.records.proofs.walking.judge_record.Goals.{After-check_of, In-Ok-Known}
 
--- a fact that the answer stands on, shown first
-since : (P : Type 0) {Q : Type 0} → P → Q → Q
-since P p q = q
+-- what the header and the check tell
+read : (c : After-check_of) → IsRead c.args.bytes.now c.in-Some.rest.now c.in-Some.header c.check_of.result
+read c = record { header = c.in-Some.ensures; room = c.if-rest-length.false; sums = c.check_of.ensures }
 
-pub returns-then-is-empty : goal.returns-then-is-empty
-returns-then-is-empty c =
-    let says : Err (Ending c.args.c.count) ≡ turn c.args.c c.args.bytes.now = grind (arith, nat_tests) in
-    record { answers = says; goes = search rules }
+known : (c : In-Ok-Known) → Ok Known ≡ answer c.args.c.order.next c.in-Some.header.kind
+known c = ap (λ (s : Step). Ok s) (sym c.in-Ok-Known.field-0-is) ∙ c.in-Ok-Known.ensures.says
 
-pub returns-in-default : goal.returns-in-default
-returns-in-default c = record { answers = grind (arith, nat_tests, c.in-default.ensures); goes = search rules }
+pub returns-then-check_of-header-clause-answers : goal.returns-then-check_of-header-clause-answers
+returns-then-check_of-header-clause-answers c =
+    let at = (goal.at.returns-then-check_of-header-clause-answers c).After-check_of in check_turn _ _ _ _ _ (read at) c.if-check_of-header.true
 
-pub returns-then-rest-length : goal.returns-then-rest-length
-returns-then-rest-length c = record { goes = since (length c.in-Some.rest.now < c.in-Some.header.length) (omega arith) (search rules); answers = (let e = c.in-Some.ensures in grind (arith, nat_tests, length-drop)) }
+pub returns-in-Err-Unknown-clause-answers : goal.returns-in-Err-Unknown-clause-answers
+returns-in-Err-Unknown-clause-answers c =
+    let at = (goal.at.returns-in-Err-Unknown-clause-answers c).After-check_of in
+    ap (λ (f : OrderFault). placed c.args.c c.args.bytes.now (Err f)) (sym c.in-Err-Unknown.field-0-is)
+    ∙ ap (placed c.args.c c.args.bytes.now) c.in-Err-Unknown.ensures.says ∙ sym (placed_turn _ _ _ _ _ (read at) c.if-check_of-header.false)
 
-pub returns-then-check-of-header : goal.returns-then-check-of-header
-returns-then-check-of-header c = record { goes = since (c.check_of_lem.result ≡ c.in-Some.header.check → ⊥) (λ same. omega arith) (search rules); answers = (let e = c.in-Some.ensures in grind (arith, nat_tests, length-drop, sub-zero)) }
+pub returns-in-Err-NotNext-clause-answers : goal.returns-in-Err-NotNext-clause-answers
+returns-in-Err-NotNext-clause-answers c =
+    let at = (goal.at.returns-in-Err-NotNext-clause-answers c).After-check_of in
+    ap (λ (f : OrderFault). placed c.args.c c.args.bytes.now (Err f)) (sym c.in-Err-NotNext.field-0-is)
+    ∙ ap (placed c.args.c c.args.bytes.now) c.in-Err-NotNext.ensures.says ∙ sym (placed_turn _ _ _ _ _ (read at) c.if-check_of-header.false)
 
-pub returns-in-Err-Unknown : goal.returns-in-Err-Unknown
-returns-in-Err-Unknown c =
-    let says : Err (Kind c.args.c.count) ≡ turn c.args.c c.args.bytes.now = (let e = c.in-Some.ensures in let s = c.in-Err-Unknown.ensures in grind (arith, nat_tests, length-drop, sub-zero)) in
-    record { answers = says; goes = search rules }
+pub returns-in-Ok-Skipped-clause-answers : goal.returns-in-Ok-Skipped-clause-answers
+returns-in-Ok-Skipped-clause-answers c =
+    let at = (goal.at.returns-in-Ok-Skipped-clause-answers c).After-check_of in
+    skipped_turn _ _ _ _ _ (read at) c.if-check_of-header.false _
+    (ap (λ (s : Step). Ok s) (sym c.in-Ok-Skipped.field-0-is) ∙ c.in-Ok-Skipped.ensures.says)
+    (c.past.ensures ∙ ap (λ (n : Next). behind c.args.c c.in-Some.header.length n c.args.c.places) c.in-Ok-Skipped.ensures.moves)
 
-pub returns-in-Err-NotNext : goal.returns-in-Err-NotNext
-returns-in-Err-NotNext c = record { answers = (let e = c.in-Some.ensures in let s = c.in-Err-NotNext.ensures in grind (arith, nat_tests, length-drop, sub-zero)); goes = search rules }
+pub returns-then-header-ne1-clause-answers : goal.returns-then-header-ne1-clause-answers
+returns-then-header-ne1-clause-answers c =
+    let at = (goal.at.returns-then-header-ne1-clause-answers c).After-check_of in
+    more_turn _ _ _ _ _ (read at) c.if-check_of-header.false (known (goal.at.returns-then-header-ne1-clause-answers c).In-Ok-Known) _ c.noting-places.ensures c.if-header-ne1.true _
+    (c.past-then-header-ne1.ensures ∙ ap (λ (n : Next). behind c.args.c c.in-Some.header.length n c.noting-places.result) c.in-Ok-Known.ensures.moves)
 
-pub returns-in-Ok-Skipped : goal.returns-in-Ok-Skipped
-returns-in-Ok-Skipped c = record { answers = (let e = c.in-Some.ensures in let s = c.in-Ok-Skipped.ensures in grind (arith, nat_tests, length-drop, sub-zero)); goes = search rules }
+pub returns-then-rest-length-2-clause-answers : goal.returns-then-rest-length-2-clause-answers
+returns-then-rest-length-2-clause-answers c =
+    let at = (goal.at.returns-then-rest-length-2-clause-answers c).After-check_of in
+    done_turn _ _ _ _ _ (read at) c.if-check_of-header.false (known (goal.at.returns-then-rest-length-2-clause-answers c).In-Ok-Known) _ c.noting-places.ensures c.if-header-ne1.false c.if-rest-length-2.true
 
-pub returns-then-header-ne1 : goal.returns-then-header-ne1
-returns-then-header-ne1 c = record { answers = (let e = c.in-Some.ensures in let s = c.in-Ok-Known.ensures in grind (arith, nat_tests, length-drop, sub-zero)); goes = search rules }
-
-pub returns-then-rest-length-2 : goal.returns-then-rest-length-2
-returns-then-rest-length-2 c = record { goes = since (length c.in-Some.rest.now ≡ c.in-Some.header.length) (omega arith) (search rules); answers = (let e = c.in-Some.ensures in let s = c.in-Ok-Known.ensures in grind (arith, nat_tests, length-drop, sub-zero)) }
-
-pub returns-else-rest-length-2 : goal.returns-else-rest-length-2
-returns-else-rest-length-2 c =
-    let says : Err (Ending (c.args.c.count + 1)) ≡ turn c.args.c c.args.bytes.now = (let e = c.in-Some.ensures in let s = c.in-Ok-Known.ensures in grind (arith, nat_tests, length-drop, sub-zero)) in
-    record { answers = says; goes = search rules }
+pub returns-else-rest-length-2-clause-answers : goal.returns-else-rest-length-2-clause-answers
+returns-else-rest-length-2-clause-answers c =
+    let at = (goal.at.returns-else-rest-length-2-clause-answers c).After-check_of in
+    ending_turn _ _ _ _ _ (read at) c.if-check_of-header.false (known (goal.at.returns-else-rest-length-2-clause-answers c).In-Ok-Known) _ c.noting-places.ensures c.if-header-ne1.false c.if-rest-length-2.false

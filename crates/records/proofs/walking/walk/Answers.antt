@@ -32,31 +32,31 @@ records-init c =
       (length file + 1, omega arith, ap (walked_from file (length file + 1)) begins ∙ starts largest_file file some fits),
     )
 
-pub returns-then-is-empty : goal.returns-then-is-empty
-returns-then-is-empty c =
+pub returns-then-is_empty : goal.returns-then-is_empty
+returns-then-is_empty c =
     let file = c.args.file.now in
-    let wrong : WrongSize largest_file file = ⊎_elim (λ none. inl (eqb-true (length file) 0 (sym c.is-empty.ensures ∙ none))) (λ long. inr (omega (arith, long.1))) c.then-is-empty.either in
-    proved file (Err Size) c.type-inv.file (sym (wrong_size largest_file file wrong))
+    let wrong : WrongSize largest_file file = ⊎_elim (λ none. inl (eqb-true (length file) 0 (sym c.is_empty.ensures ∙ none))) (λ long. inr (omega (arith, long.1))) c.then-is_empty.either in
+    proved file (Err Size) c.type_inv.file (sym (wrong_size largest_file file wrong))
 
-pub returns-in-err-next : goal.returns-in-err-next
-returns-in-err-next c =
+pub returns-in_err-next : goal.returns-in_err-next
+returns-in_err-next c =
     let file = c.args.file.now in
     let inv = c.records.invariant in
-    let p = err_from_is_err_and c.from-residual.result c.from-residual.ensures.1 in
-    let t = one_turn file c.records.c _ inv.3.0 (walked largest_file file) inv.3.1 inv.3.2 c.in-err-next.ensures.answers in
-    proved file c.from-residual.result c.type-inv.file (rw (p.1, p.2) t.2)
+    let p = err_from_is_err_and c.from_residual.result c.from_residual.ensures.1 in
+    let t = one_turn file c.records.c _ inv.3.0 (walked largest_file file) inv.3.1 inv.3.2 c.in_err-next.ensures.answers in
+    proved file c.from_residual.result c.type_inv.file (rw (p.1, p.2) t.2)
 
 pub records-preserved : goal.records-preserved
 records-preserved c =
     let file = c.args.file.now in
     let inv = c.records.invariant in
-    let goes = subst (Goes c.records.c _) c.in-More.is c.in-ok-next.ensures.goes in
-    let t = one_turn file c.records.c (Ok (More c.in-More.next)) inv.3.0 (walked largest_file file) inv.3.1 inv.3.2 (let h = c.in-ok-next.ensures.answers in cc) in
+    let goes = subst (Goes c.records.c _) c.in-More.is c.in_ok-next.ensures.goes in
+    let t = one_turn file c.records.c (Ok (More c.in-More.next)) inv.3.0 (walked largest_file file) inv.3.1 inv.3.2 (let h = c.in_ok-next.ensures.answers in cc) in
     (omega arith, omega arith, inv.2, (t.0, omega arith, t.2))
 
 pub returns-in-Done : goal.returns-in-Done
 returns-in-Done c =
     let file = c.args.file.now in
     let inv = c.records.invariant in
-    let t = one_turn file c.records.c (Ok (Done c.in-Done.places)) inv.3.0 (walked largest_file file) inv.3.1 inv.3.2 (let h = c.in-ok-next.ensures.answers in cc) in
-    proved file (Ok c.in-Done.places) c.type-inv.file t.2
+    let t = one_turn file c.records.c (Ok (Done c.in-Done.places)) inv.3.0 (walked largest_file file) inv.3.1 inv.3.2 (let h = c.in_ok-next.ensures.answers in cc) in
+    proved file (Ok c.in-Done.places) c.type_inv.file t.2

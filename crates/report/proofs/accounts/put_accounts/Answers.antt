@@ -11,4 +11,4 @@ pub loop-index-preserved : goal.loop-index-preserved
 loop-index-preserved c =
     let n = c.loop-index.index + 1 in
     puts_same (sym (texts_more c.loop-index.index _))
-    (puts_then (omega arith) c.loop-index.invariant (puts_same (ap (account_line n) c.account.ensures) c.put-account-end.ensures))
+    (puts_then (omega arith) c.loop-index.invariant (puts_same (ap (account_line n) c.account.ensures) c.put_account-end.ensures))

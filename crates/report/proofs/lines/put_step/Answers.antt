@@ -4,5 +4,5 @@ use Rattle.report.proofs.lines.put_step.Goals as goal
 
 pub returns : goal.returns
 returns c =
-    puts_then (omega arith) c.put-bytes-word.ensures
-    (puts_then (omega arith) (puts_same (ap decimal c.from.ensures) c.put-number-count.ensures) c.put-bytes.ensures)
+    puts_then (omega arith) c.put_bytes-word.ensures
+    (puts_then (omega arith) (puts_same (ap decimal c.from.ensures) c.put_number-count.ensures) c.put_bytes.ensures)

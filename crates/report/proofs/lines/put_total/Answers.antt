@@ -3,4 +3,4 @@ use Rattle.text.proofs.Places.{puts_then}
 use Rattle.report.proofs.lines.put_total.Goals as goal
 
 pub returns : goal.returns
-returns c = puts_then (omega arith) c.put-bytes-word.ensures c.put-totals.ensures
+returns c = puts_then (omega arith) c.put_bytes-word.ensures c.put_totals.ensures

@@ -3,4 +3,4 @@ use Rattle.text.proofs.Places.{puts_then, puts_same}
 use Rattle.report.proofs.lines.put_totals.Goals as goal
 
 pub returns : goal.returns
-returns c = puts_then (omega arith) (puts_same (ap decimal c.from.ensures) c.put-number-particles.ensures) c.put-vector.ensures
+returns c = puts_then (omega arith) (puts_same (ap decimal c.from.ensures) c.put_number-particles.ensures) c.put_vector.ensures

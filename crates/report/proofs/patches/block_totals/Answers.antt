@@ -1,4 +1,4 @@
-use Rattle.std.proofs.Common.{◌≡◌, ℕ, ◌+◌, ◌*◌, ◌<◌, ◌≤◌, ap, ◌∙◌, arith}
+use Rattle.std.proofs.Common.{◌≡◌, ℕ, ◌+◌, ◌≤◌, ap, ◌∙◌, arith}
 use Rattle.lattice.specs.declared.vector.Vector.{Vector}
 use Rattle.lattice.specs.Sums.{sum_n, sum_z}
 use Rattle.lattice.specs.Grids.{cell_at}
@@ -11,8 +11,8 @@ use Rattle.report.proofs.patches.block_totals.Goals as goal
 pub loop-line-init : goal.loop-line-init
 loop-line-init g c = (sum_n_start _, sum_start _, sum_start _)
 
-pub overflow-add-particles : goal.overflow-add-particles
-overflow-add-particles g c =
+pub overflow_add-particles : goal.overflow_add-particles
+overflow_add-particles g c =
     let m = g.G.Gas.model c.args.gas.now in
     let laws = g.met.G.Gas.lawful c.args.gas.now in
     let xs = c.args.field.now in
@@ -22,10 +22,10 @@ overflow-add-particles g c =
     let few : b ≤ 256 = omega (arith, c.requires.columns) in
     let so_far = particles_few m laws xs j b cell few in
     let one = stretch_few m laws xs b (λ k. cell k j) few in
-    omega (arith, c.loop-line.invariant.0, c.stretch-totals-stretch.ensures.particles, c.requires.rows, c.loop-line-test.true)
+    omega (arith, c.loop-line.invariant.0, c.stretch_totals-stretch.ensures.particles, c.requires.rows, c.loop-line-test.true)
 
-pub overflow-add-along : goal.overflow-add-along
-overflow-add-along g c =
+pub overflow_add-along : goal.overflow_add-along
+overflow_add-along g c =
     let m = g.G.Gas.model c.args.gas.now in
     let laws = g.met.G.Gas.lawful c.args.gas.now in
     let xs = c.args.field.now in
@@ -34,11 +34,11 @@ overflow-add-along g c =
     let cell : ℕ → ℕ → ℕ = λ k j. cell_at c.args.grid.width (c.args.column + k) (c.args.row + j) in
     let few : b ≤ 256 = omega (arith, c.requires.columns) in
     let line : j ≤ 256 = omega (arith, c.requires.rows, c.loop-line-test.true) in
-    sum_fits c.loop-line.invariant.1 (ap (λ (v : Vector). v.along) c.stretch-totals-stretch.ensures.momentum)
+    sum_fits c.loop-line.invariant.1 (ap (λ (v : Vector). v.along) c.stretch_totals-stretch.ensures.momentum)
     (omega (arith, along_small m laws xs j b cell few)) (omega (arith, stretch_along m laws xs b (λ k. cell k j) few))
 
-pub overflow-add-across : goal.overflow-add-across
-overflow-add-across g c =
+pub overflow_add-across : goal.overflow_add-across
+overflow_add-across g c =
     let m = g.G.Gas.model c.args.gas.now in
     let laws = g.met.G.Gas.lawful c.args.gas.now in
     let xs = c.args.field.now in
@@ -47,7 +47,7 @@ overflow-add-across g c =
     let cell : ℕ → ℕ → ℕ = λ k j. cell_at c.args.grid.width (c.args.column + k) (c.args.row + j) in
     let few : b ≤ 256 = omega (arith, c.requires.columns) in
     let line : j ≤ 256 = omega (arith, c.requires.rows, c.loop-line-test.true) in
-    sum_fits c.loop-line.invariant.2 (ap (λ (v : Vector). v.across) c.stretch-totals-stretch.ensures.momentum)
+    sum_fits c.loop-line.invariant.2 (ap (λ (v : Vector). v.across) c.stretch_totals-stretch.ensures.momentum)
     (omega (arith, across_small m laws xs j b cell few)) (omega (arith, stretch_across m laws xs b (λ k. cell k j) few))
 
 pub loop-line-preserved : goal.loop-line-preserved
@@ -60,8 +60,8 @@ loop-line-preserved g c =
     let cell : ℕ → ℕ → ℕ = λ k j. cell_at c.args.grid.width (c.args.column + k) (c.args.row + j) in
     let few : b ≤ 256 = omega (arith, c.requires.columns) in
     let line : j ≤ 256 = omega (arith, c.requires.rows, c.loop-line-test.true) in
-    let told = c.stretch-totals-stretch.ensures.momentum in (
-      omega (arith, c.loop-line.invariant.0, c.stretch-totals-stretch.ensures.particles, sum_n_more j (λ i. sum_n b (λ k. particles_at m xs (cell k i)))),
+    let told = c.stretch_totals-stretch.ensures.momentum in (
+      omega (arith, c.loop-line.invariant.0, c.stretch_totals-stretch.ensures.particles, sum_n_more j (λ i. sum_n b (λ k. particles_at m xs (cell k i)))),
       sum_is c.loop-line.invariant.1 (ap (λ (v : Vector). v.along) told)
           (omega (arith, along_small m laws xs j b cell few)) (omega (arith, stretch_along m laws xs b (λ k. cell k j) few))
           (sum_more j (λ i. sum_z b (λ k. (momentum_at m xs (cell k i)).along))),

@@ -11,4 +11,4 @@ pub loop-column-preserved : goal.loop-column-preserved
 loop-column-preserved g c =
     puts_same (sym (texts_more c.loop-column.column _))
     (puts_then (omega arith) c.loop-column.invariant
-    (puts_same (ap patch_line c.patch-at-found.ensures) c.put-patch-end.ensures))
+    (puts_same (ap patch_line c.patch_at-found.ensures) c.put_patch-end.ensures))

@@ -7,4 +7,4 @@ pub loop-row-init : goal.loop-row-init
 loop-row-init g c = puts_same (texts_start _) (puts_none c.args.out.now c.args.at (omega arith))
 
 pub loop-row-preserved : goal.loop-row-preserved
-loop-row-preserved g c = puts_same (sym (texts_more c.loop-row.row _)) (puts_then (omega arith) c.loop-row.invariant c.put-patch-row-end.ensures)
+loop-row-preserved g c = puts_same (sym (texts_more c.loop-row.row _)) (puts_then (omega arith) c.loop-row.invariant c.put_patch_row-end.ensures)

@@ -6,8 +6,8 @@ use Rattle.gas.specs.Model.{particles, momentum}
 use Rattle.report.proofs.Stretches.{stretch_sum_n, stretch_sum_z}
 use Rattle.report.proofs.patches.stretch_totals.Goals as goal
 
-pub slice-bounds-field-totals-end : goal.slice-bounds-field-totals-end
-slice-bounds-field-totals-end g c =
+pub slice_bounds-field_totals-end : goal.slice_bounds-field_totals-end
+slice_bounds-field_totals-end g c =
     let w = c.args.grid.width in
     let r = c.args.row in
     let wide : r * c.width.result ≡ r * w = ap (λ (x : ℕ). r * x) c.width.ensures.value in
@@ -28,8 +28,8 @@ returns g c =
     let cell : ℕ → ℕ = λ k. cell_at w (col + k) r in
     let at : (k : ℕ) → start + k ≡ cell k = λ k. omega arith in
     record {
-      particles = c.field-totals.ensures.particles ∙ stretch_sum_n (particles m) xs start (start + n - start) n cell (omega arith) within at;
-      momentum = c.field-totals.ensures.momentum ∙ ap₂ vec
+      particles = c.field_totals.ensures.particles ∙ stretch_sum_n (particles m) xs start (start + n - start) n cell (omega arith) within at;
+      momentum = c.field_totals.ensures.momentum ∙ ap₂ vec
           (stretch_sum_z (λ s. (momentum m s).along) xs start (start + n - start) n cell (omega arith) within at)
           (stretch_sum_z (λ s. (momentum m s).across) xs start (start + n - start) n cell (omega arith) within at);
     }

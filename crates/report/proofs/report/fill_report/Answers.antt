@@ -4,5 +4,5 @@ use Rattle.report.proofs.report.fill_report.Goals as goal
 
 pub returns : goal.returns
 returns g c =
-    let is = filled (omega arith) c.requires.fits c.put-report.ensures in
+    let is = filled (omega arith) c.requires.fits c.put_report.ensures in
     record { answer = is.0; out = is.1 }

@@ -1,4 +1,4 @@
-use Rattle.std.proofs.Common.{ℕ, List, take, ap, arith}
+use Rattle.std.proofs.Common.{ℕ, take, ap, arith}
 use Rattle.report.specs.Lines.{total_line}
 use Rattle.report.specs.Reports.{Snapshot, report_text}
 use Rattle.text.proofs.Places.{puts_then, puts_same}
@@ -16,7 +16,7 @@ returns g c =
       field = take n c.args.field.now;
     } in
     puts_same (ap (λ (n : ℕ). report_text (of-cells n) c.args.patch) c.cells.ensures.value)
-    (puts_then (omega arith) c.put-step-first.ensures
-    (puts_then (omega arith) c.put-patches-second.ensures
-    (puts_then (omega arith) c.put-accounts-third.ensures
-    (puts_same (ap total_line c.all-totals.ensures) c.put-total.ensures))))
+    (puts_then (omega arith) c.put_step-first.ensures
+    (puts_then (omega arith) c.put_patches-second.ensures
+    (puts_then (omega arith) c.put_accounts-third.ensures
+    (puts_same (ap total_line c.all_totals.ensures) c.put_total.ensures))))

@@ -1,4 +1,4 @@
-use Rattle.std.proofs.Common.{◌≡◌, ℕ, ◌<◌, length, subst, arith, rules}
+use Rattle.std.proofs.Common.{◌≡◌, ℕ, ◌<◌, length, subst, arith}
 use Rattle.step.specs.Results.{Filled}
 use Rattle.run.proofs.Clears.{clear_none, clear_more, clear_all}
 use Rattle.run.proofs.cells.clear.Goals as goal

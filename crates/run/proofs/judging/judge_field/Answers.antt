@@ -1,4 +1,4 @@
-use Rattle.std.proofs.Common.{◌≡◌, leb, get_or, sym, ap, arith, below_more}
+use Rattle.std.proofs.Common.{leb, get_or, sym, ap, arith, below_more}
 use Rattle.std.proofs.lemmas.Bool.{le-leb, lt-leb}
 use Rattle.lattice.proofs.Firsts.{first-none, first_some}
 use Rattle.faults.specs.declared.call.CallFault.TheVariants.{FieldByte}

@@ -1,5 +1,4 @@
-use Rattle.std.proofs.Common.{◌≡◌, ℕ, ◌<◌, false, ltb, leb, get_or}
-use Rattle.dynamics.specs.Roles.{highest_map_byte}
+use Rattle.std.proofs.Common.{◌≡◌, ℕ, ◌<◌, false, leb, get_or}
 use Rattle.run.proofs.judging.judge_field.Given as goal
 
 abbrev pub invariant-loop-place : goal.invariant-loop-place

@@ -1,4 +1,4 @@
-use Rattle.std.proofs.Common.{◌≡◌, ℕ, ◌<◌, false, ltb, leb, get_or}
+use Rattle.std.proofs.Common.{◌≡◌, ℕ, ◌<◌, false, ltb, get_or}
 use Rattle.dynamics.specs.Roles.{highest_map_byte}
 use Rattle.run.proofs.judging.judge_map.Given as goal
 

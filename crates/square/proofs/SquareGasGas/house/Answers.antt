@@ -1,5 +1,5 @@
 use Rattle.square.specs.House.{house_good}
 use Rattle.square.proofs.SquareGasGas.house.Goals as goal
 
-pub invariant-of-self : goal.invariant-of-self
-invariant-of-self c = (house_good, tt)
+pub invariant_of-self : goal.invariant_of-self
+invariant_of-self c = record { sound = house_good }

@@ -9,8 +9,8 @@ returns c =
     let wide = c.width-width.ensures.value in
     record {
       row = λ fits k l.
-          c.stream-columns.ensures.row k (omega arith)
-          ∙ computed_arrives g.width g.height k c.args.row c.width-width.result c.rows-around.result c.args.from.now l (omega (arith, c.height.ensures.value)) wide c.rows-around.ensures.rows;
-      rest = λ fits k l. c.stream-columns.ensures.rest k (omega arith);
+          c.stream_columns.ensures.row k (omega arith)
+          ∙ computed_arrives g.width g.height k c.args.row c.width-width.result c.rows_around.result c.args.from.now l (omega (arith, c.height.ensures.value)) wide c.rows_around.ensures.rows;
+      rest = λ fits k l. c.stream_columns.ensures.rest k (omega arith);
       unfit = search rules;
     }

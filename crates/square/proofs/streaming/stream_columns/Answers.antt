@@ -1,5 +1,5 @@
 -- The first column, the columns between and the last: each is written once.
-use Rattle.std.proofs.Common.{◌≡◌, ℕ, ◌+◌, ◌-◌, ◌<◌, ◌≢◌, length, sym, refl, ◌∙◌, ap₂, arith, length-set, get_or-set_other}
+use Rattle.std.proofs.Common.{ℕ, ◌-◌, ◌<◌, ◌≢◌, length, sym, refl, ◌∙◌, ap₂, arith, length-set, get_or-set_other}
 use Rattle.lattice.specs.Sources.{gathered}
 use Rattle.lattice.proofs.Rings.{onward_next, onward-first, backward_next, backward_last}
 use Rattle.lattice.proofs.Writes.{write_more, write_rest}

@@ -1,9 +1,8 @@
-use Rattle.std.proofs.Common.{◌≡◌, ℕ, ◌+◌, ◌-◌, ◌*◌, ◌<◌, ◌≤◌, cond, List, [], length, get_or, take, drop, sym, refl, ap, ◌∙◌, subst, ap₂, mul_comm, zero-mul, arith, length-drop, length-take, rules}
+use Rattle.std.proofs.Common.{◌≡◌, ℕ, ◌+◌, ◌-◌, ◌*◌, ◌<◌, ◌≤◌, cond, [], length, get_or, take, drop, sym, refl, ap, ◌∙◌, subst, mul_comm, zero-mul, arith, length-drop, length-take, rules}
 use borrow.Rule.Slice.PartMut.{put_mid}
 use Rattle.lattice.specs.Sums.{count_n}
-use Rattle.lattice.proofs.Sums.{sum_n_start, sum_n_same}
+use Rattle.lattice.proofs.Sums.{sum_n_start}
 use Rattle.lattice.proofs.Cells.{row_next, row_fits_lem, lawful_grid}
-use Rattle.twist.specs.Model.{TwistModel}
 use Rattle.dynamics.specs.Step.{mark_at, collided_at}
 use Rattle.dynamics.specs.Pushes.{turns_at}
 use Rattle.step.specs.declared.cell.Collided.{Collided}
@@ -27,22 +26,22 @@ loop-row-init g c =
       refl,
     )
 
-pub slice-bounds-row-pass-count : goal.slice-bounds-row-pass-count
-slice-bounds-row-pass-count g c =
+pub slice_bounds-row_pass-count : goal.slice_bounds-row_pass-count
+slice_bounds-row_pass-count g c =
     let w = c.args.moment.grid.width in
     let start : c.loop-row.row * c.width-width.result ≡ c.loop-row.row * w = ap (λ (x : ℕ). c.loop-row.row * x) c.width-width.ensures.value in
     omega (arith, row_fits_lem c.loop-row.row w c.args.moment.grid.height (omega (arith, c.loop-row-test.true, c.height-height.ensures.value)), c.requires.spare, c.loop-row.auto.spare)
 
-pub slice-bounds-row-pass-start : goal.slice-bounds-row-pass-start
-slice-bounds-row-pass-start g c =
+pub slice_bounds-row_pass-start : goal.slice_bounds-row_pass-start
+slice_bounds-row_pass-start g c =
     let w = c.args.moment.grid.width in
     let start : c.loop-row.row * c.width-width.result ≡ c.loop-row.row * w = ap (λ (x : ℕ). c.loop-row.row * x) c.width-width.ensures.value in
     let f = row_fits_lem c.loop-row.row w c.args.moment.grid.height (omega (arith, c.loop-row-test.true, c.height-height.ensures.value)) in
     let le : c.loop-row.row * c.width-width.result ≤ length c.loop-row.spare = omega (arith, c.requires.spare, c.loop-row.auto.spare) in
     search rules
 
-pub row-pass-turned-requires : goal.row-pass-turned-requires
-row-pass-turned-requires g c =
+pub row_pass-turned-requires : goal.row_pass-turned-requires
+row_pass-turned-requires g c =
     let w = c.args.moment.grid.width in
     let start : c.loop-row.row * c.width-width.result ≡ c.loop-row.row * w = ap (λ (x : ℕ). c.loop-row.row * x) c.width-width.ensures.value in
     let f = row_fits_lem c.loop-row.row w c.args.moment.grid.height (omega (arith, c.loop-row-test.true, c.height-height.ensures.value)) in
@@ -53,13 +52,13 @@ row-pass-turned-requires g c =
       spare = simp (length-take, length-drop) (omega (arith, c.requires.spare, c.loop-row.auto.spare));
     }
 
-pub overflow-add-turned : goal.overflow-add-turned
-overflow-add-turned g c =
+pub overflow_add-turned : goal.overflow_add-turned
+overflow_add-turned g c =
     let w = c.args.moment.grid.width in
     let few = (lawful_grid c.args.moment.grid).few in
     let f = row_fits_lem c.loop-row.row w c.args.moment.grid.height (omega (arith, c.loop-row-test.true, c.height-height.ensures.value)) in
     let so_far : c.loop-row.turned ≤ c.loop-row.row * w = subst (λ (n : ℕ). n ≤ c.loop-row.row * w) (sym c.loop-row.invariant.1) (count_few (c.loop-row.row * w) _) in
-    let here : c.row-pass-turned.result ≤ w = subst (λ (n : ℕ). n ≤ w) (sym c.row-pass-turned.ensures.row.turned) (count_few w _) in
+    let here : c.row_pass-turned.result ≤ w = subst (λ (n : ℕ). n ≤ w) (sym c.row_pass-turned.ensures.row.turned) (count_few w _) in
     omega arith
 
 pub loop-row-preserved : goal.loop-row-preserved
@@ -75,14 +74,14 @@ loop-row-preserved g c =
     let r = c.loop-row.row in
     let inv = c.loop-row.invariant in
     let xs = c.loop-row.spare in
-    let ys = c.row-pass-turned.new.spare in
+    let ys = c.row_pass-turned.new.spare in
     let wide = c.width-width.ensures.value in
     let below : r < moment.grid.height = omega (arith, c.loop-row-test.true, c.height-height.ensures.value) in
     let f = row_fits_lem r w moment.grid.height below in
     let fits : r * w + w ≤ length xs = omega (arith, f, c.requires.spare, c.loop-row.auto.spare) in
     let start : r * c.width-width.result ≡ r * w = ap (λ (x : ℕ). r * x) wide in
-    let long : length ys ≡ length xs - r * w = c.row-pass-turned.auto.spare ∙ part_long xs (r * c.width-width.result) (omega arith) ∙ ap (λ (v : ℕ). length xs - r * v) wide in
-    let told = c.row-pass-turned.ensures.row in
+    let long : length ys ≡ length xs - r * w = c.row_pass-turned.auto.spare ∙ part_long xs (r * c.width-width.result) (omega arith) ∙ ap (λ (v : ℕ). length xs - r * v) wide in
+    let told = c.row_pass-turned.ensures.row in
     let cells_are : (λ (q : ℕ). cell_in m e (g.S.TwistSource.model c.loop-row.source) (g.S.TwistSource.mark c.loop-row.source) moment r (r * w) map field q) ≡ (λ (q : ℕ). cell_in m e s (mark_at s k (r * w)) moment r (r * w) map field q) =
     λ j. λ (q : ℕ). cell_in m e (inv.3 j) (inv.2 j) moment r (r * w) map field q in (
       subst (λ (v : ℕ). Filled ((r + 1) * w) (collided_at (scene_of (run_of m e s k moment []) map field)) c.args.spare.now (put_mid (r * v) (length xs - r * v) xs ys)) (sym wide)
@@ -90,10 +89,10 @@ loop-row-preserved g c =
           (λ q h. told.row q h ∙ ap (λ (x : ℕ → Collided). (x q).state) cells_are ∙ ap (λ (x : Collided). x.state) (in_whole m e s k moment map field r q below h))
           (λ q h. told.rest q h ∙ ap (λ (v : ℕ). get_or (take (length xs - r * v) (drop (r * v) xs)) q 0) wide)
           inv.0),
-      ap (λ (n : ℕ). n + c.row-pass-turned.result) inv.1
-          ∙ count_rows m e s k moment map field r c.row-pass-turned.result below (told.turned ∙ ap (λ (x : ℕ → Collided). count_n w (λ q. (x q).turned)) cells_are),
-      c.row-pass-turned.ensures.mark ∙ (λ j. mark_at (inv.3 j) (inv.2 j) w) ∙ sym (mark_at_add s k (r * w) w) ∙ ap (mark_at s k) (sym (row_next r w)),
-      c.row-pass-turned.ensures.same ∙ inv.3,
+      ap (λ (n : ℕ). n + c.row_pass-turned.result) inv.1
+          ∙ count_rows m e s k moment map field r c.row_pass-turned.result below (told.turned ∙ ap (λ (x : ℕ → Collided). count_n w (λ q. (x q).turned)) cells_are),
+      c.row_pass-turned.ensures.mark ∙ (λ j. mark_at (inv.3 j) (inv.2 j) w) ∙ sym (mark_at_add s k (r * w) w) ∙ ap (mark_at s k) (sym (row_next r w)),
+      c.row_pass-turned.ensures.same ∙ inv.3,
     )
 
 pub returns : goal.returns

@@ -1,4 +1,4 @@
-use Rattle.std.proofs.Common.{◌≡◌, ℕ, ◌+◌, ◌*◌, ◌<◌, ◌≤◌, Bool, cond, length, get_or, sym, refl, ap, ◌∙◌, subst, add-zero, add-one, arith, rules}
+use Rattle.std.proofs.Common.{◌≡◌, ℕ, ◌+◌, ◌*◌, ◌<◌, ◌≤◌, Bool, cond, length, get_or, sym, refl, ap, ◌∙◌, add-zero, add-one, arith, rules}
 use Rattle.lattice.proofs.Cells.{row_fits_lem}
 use Rattle.twist.specs.Model.{TwistModel}
 use Rattle.dynamics.specs.Roles.{role_of}
@@ -40,13 +40,13 @@ loop-column-preserved g c =
     let cell : ℕ → Collided = cell_in m e s k c.args.moment row (row * c.args.moment.grid.width) map field in
     let twist_is : c.ask-twist.result ≡ s.bit (mark_at s k i) step i row =
     c.ask-twist.ensures.answer
-    ∙ ap (λ (x : TwistModel). x.bit (g.S.TwistSource.mark c.loop-column.own_val) step i row) inv.3
+    ∙ ap (λ (x : TwistModel). x.bit (g.S.TwistSource.mark c.loop-column.own) step i row) inv.3
     ∙ ap (λ (x : ℕ). s.bit x step i row) inv.2 in
-    let role-is = c.role-of.ensures ∙ ap (λ (n : ℕ). role_of (get_or map (row * n + i) 0)) wide in
+    let role-is = c.role_of.ensures ∙ ap (λ (n : ℕ). role_of (get_or map (row * n + i) 0)) wide in
     let state-is : get_or field (row * c.width-width.result + i) 0 ≡ get_or field (row * c.args.moment.grid.width + i) 0 = ap (λ (n : ℕ). get_or field (row * n + i) 0) wide in
-    let cell-is : c.collide-cell-cell.result ≡ cell i =
-    c.collide-cell-cell.ensures ∙ (λ j. cell_after m e (c.fan-acts-acts.ensures j) (twist_is j) (role-is j) (state-is j)) in
-    let count : c.if-cell.turned ≡ c.loop-column.turned + cond c.collide-cell-cell.result.turned 1 0 =
+    let cell-is : c.collide_cell-cell.result ≡ cell i =
+    c.collide_cell-cell.ensures ∙ (λ j. cell_after m e (c.fan_acts-acts.ensures j) (twist_is j) (role-is j) (state-is j)) in
+    let count : c.if-cell.turned ≡ c.loop-column.turned + cond c.collide_cell-cell.result.turned 1 0 =
     elim c.if-cell.branch [
       | then-cell w ↦ w.turned-is ∙ ap (λ (b : Bool). c.loop-column.turned + cond b 1 0) (sym w.if-cell.true)
       | else-cell w ↦ w.turned-is ∙ sym (add-zero _) ∙ ap (λ (b : Bool). c.loop-column.turned + cond b 1 0) (sym w.if-cell.false)
@@ -54,10 +54,10 @@ loop-column-preserved g c =
     let small : c.if-cell.turned ≤ i + 1 = elim c.if-cell.branch [ then-cell w ↦ omega (arith, w.turned-is, inv.0) | else-cell w ↦ omega (arith, w.turned-is, inv.0) ] in
     let lt : i < length c.loop-column.spare = search rules in (
       small,
-      row_more cell c.args.spare.now c.loop-column.spare i c.loop-column.turned c.if-cell.turned c.collide-cell-cell.result.state lt
+      row_more cell c.args.spare.now c.loop-column.spare i c.loop-column.turned c.if-cell.turned c.collide_cell-cell.result.state lt
           (ap (λ (x : Collided). x.state) cell-is)
           (count ∙ ap (λ (x : Collided). c.loop-column.turned + cond x.turned 1 0) cell-is)
           inv.1,
-      c.ask-twist.ensures.moved ∙ ap (λ (x : TwistModel). x.next (g.S.TwistSource.mark c.loop-column.own_val)) inv.3 ∙ ap s.next inv.2 ∙ ap (mark_at s k) (sym (add-one i)),
+      c.ask-twist.ensures.moved ∙ ap (λ (x : TwistModel). x.next (g.S.TwistSource.mark c.loop-column.own)) inv.3 ∙ ap s.next inv.2 ∙ ap (mark_at s k) (sym (add-one i)),
       c.ask-twist.ensures.same ∙ inv.3,
     )

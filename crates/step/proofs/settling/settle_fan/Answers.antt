@@ -2,9 +2,6 @@ use Rattle.std.proofs.Common.{◌≡◌, ℕ, ◌^◌, ◌≤◌, ℤ, pos, ◌+
 use Rattle.std.proofs.lemmas.Int.{ints, to_z-of_z}
 use Rattle.lattice.specs.declared.vector.Vector.{Vector}
 use Rattle.lattice.specs.Vectors.{vec, times}
-use Rattle.lattice.proofs.Vectors.{same_vector}
-use Rattle.gas.specs.Model.{GasModel}
-use Rattle.gas.specs.Laws.{GasLaws}
 use Rattle.book.specs.Accounts.{fan_account, pushed}
 use Rattle.step.proofs.Products.{product_small}
 use Rattle.step.proofs.settling.settle_fan.Goals as goal

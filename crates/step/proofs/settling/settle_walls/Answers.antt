@@ -1,24 +1,24 @@
-use Rattle.std.proofs.Common.{◌≡◌, ℕ, ◌+◌, ◌-◌, ◌*◌, ◌^◌, ◌<◌, ◌≤◌, List, length, get_or, ℤ, pos, nat_abs, sym, refl, ap, ◌∙◌, subst, arith, length-set, rules}
+use Rattle.std.proofs.Common.{◌≡◌, ℕ, ◌+◌, ◌-◌, ◌<◌, ◌≤◌, List, length, get_or, pos, nat_abs, sym, ap, ◌∙◌, subst, arith, length-set, rules}
 use Rattle.std.proofs.lemmas.Int.{ints}
 use Rattle.lattice.specs.declared.vector.Vector.{Vector}
 use Rattle.lattice.specs.Vectors.{times}
 use Rattle.gas.proofs.Bounds.{momentum_small}
 use Rattle.book.specs.declared.account.Account.{Account}
 use Rattle.book.specs.declared.table.Book.{Book}
-use Rattle.book.specs.Accounts.{accounts, none, grown}
-use Rattle.dynamics.specs.Roles.{role_of, is_wall_of}
+use Rattle.book.specs.Accounts.{none}
+use Rattle.dynamics.specs.Roles.{is_wall_of}
 use Rattle.step.specs.Settling.{push_up_to, Settled}
 use Rattle.step.proofs.Settles.{wall_byte, no_wall, sum_fits, settled_none, settled_skip, settled_clear, settled_more, push_small}
 use Rattle.step.proofs.settling.settle_walls.Goals as goal
-use Rattle.step.proofs.settling.settle_walls.Goals.{in-Wall, in-default}
+use Rattle.step.proofs.settling.settle_walls.Goals.{in-Wall, in_default}
 
 pub loop-place-init : goal.loop-place-init
 loop-place-init g c = (c.args.book.now.full, settled_none (g.G.Gas.model c.args.gas.now) c.args.map.now c.args.field.now c.args.book.now.accounts, omega arith)
 
-pub loop-place-preserved-then-is-clear : goal.loop-place-preserved-then-is-clear
-loop-place-preserved-then-is-clear g c =
+pub loop-place-preserved-then-is_clear : goal.loop-place-preserved-then-is_clear
+loop-place-preserved-then-is_clear g c =
     let m = g.G.Gas.model c.args.gas.now in
-    let clear = settled_clear m c.args.map.now c.args.field.now c.args.book.now.accounts c.loop-place.book.accounts c.loop-place.place 64 (c.is-clear.ensures (search rules)) c.loop-place.invariant.1 in
+    let clear = settled_clear m c.args.map.now c.args.field.now c.args.book.now.accounts c.loop-place.book.accounts c.loop-place.place 64 (c.is_clear.ensures (search rules)) c.loop-place.invariant.1 in
     (c.loop-place.invariant.0, clear, search rules)
 
 pub twice-push-requires : goal.twice-push-requires
@@ -64,7 +64,7 @@ loop-place-preserved g c =
     let i = c.loop-place.place in
     let old = c.args.book.now.accounts in
     let new = c.loop-place.book.accounts in
-    elim c.match-role-of.branch [
+    elim c.match-role_of.branch [
       | in-Wall w ↦
           let role = sym w.in-Wall.ensures in
           let byte = wall_byte (get_or map i 0) w.in-Wall.obstacle role in
@@ -76,10 +76,10 @@ loop-place-preserved g c =
                 (w.twice-push.ensures ∙ ap (times (pos 2)) w.momentum.ensures) c.loop-place.invariant.1)),
             omega (arith, c.loop-place-test.true),
           )
-      | in-default w ↦ (
+      | in_default w ↦ (
         subst (λ (b : Book). length b.accounts ≡ 16) (sym w.book-is) c.loop-place.invariant.0,
         subst (λ (b : Book). Settled m map field old b.accounts (i + 1)) (sym w.book-is)
-            (settled_skip m map field old new i (λ n. ap (is_wall_of n) (sym c.role-of.ensures) ∙ no_wall c.role-of.result w.in-default.not-Wall n) c.loop-place.invariant.1),
+            (settled_skip m map field old new i (λ n. ap (is_wall_of n) (sym c.role_of.ensures) ∙ no_wall c.role_of.result w.in_default.not-Wall n) c.loop-place.invariant.1),
         omega (arith, c.loop-place-test.true),
       )
     ]

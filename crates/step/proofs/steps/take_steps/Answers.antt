@@ -1,5 +1,4 @@
-use Rattle.std.proofs.Common.{◌≡◌, ℕ, ◌+◌, ◌*◌, ◌≤◌, sym, refl, ◌∙◌, subst, arith, rules}
-use Rattle.dynamics.specs.Tunnels.{Tunnel}
+use Rattle.std.proofs.Common.{◌*◌, sym, refl, subst, arith}
 use Rattle.dynamics.specs.Soundness.{SoundTunnel}
 use Rattle.dynamics.proofs.Whole.{steps_keep}
 use Rattle.step.specs.Scenes.{run_of, scene_of}

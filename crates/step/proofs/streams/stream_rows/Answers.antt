@@ -1,4 +1,4 @@
-use Rattle.std.proofs.Common.{◌≡◌, ℕ, ◌+◌, ◌-◌, ◌*◌, ◌<◌, ◌≤◌, Bool, true, ◌&&◌, ltb, leb, length, get_or, take, drop, sym, refl, ap, ◌∙◌, subst, mul_comm, arith, rules}
+use Rattle.std.proofs.Common.{◌≡◌, ℕ, ◌+◌, ◌-◌, ◌*◌, ◌<◌, ◌≤◌, Bool, true, ◌&&◌, ltb, leb, length, get_or, take, drop, sym, ap, ◌∙◌, subst, mul_comm, arith, rules}
 use borrow.Rule.Slice.PartMut.{put_mid}
 use Rattle.std.proofs.lemmas.Bool.{lt-ltb, le-leb}
 use Rattle.lattice.proofs.Cells.{row_fits_lem}
@@ -10,14 +10,14 @@ use Rattle.step.proofs.streams.stream_rows.Goals as goal
 pub loop-row-init : goal.loop-row-init
 loop-row-init g c = filled_none _ c.args.field.now c.args.grid.width
 
-pub slice-bounds-stream-row-count : goal.slice-bounds-stream-row-count
-slice-bounds-stream-row-count g c =
+pub slice_bounds-stream_row-count : goal.slice_bounds-stream_row-count
+slice_bounds-stream_row-count g c =
     let w = c.args.grid.width in
     let start : c.loop-row.row * c.width-width.result ≡ c.loop-row.row * w = ap (λ (x : ℕ). c.loop-row.row * x) c.width-width.ensures.value in
     omega (arith, row_fits_lem c.loop-row.row w c.args.grid.height (omega (arith, c.loop-row-test.true, c.height-height.ensures.value)), c.requires.field, c.loop-row.auto.field)
 
-pub slice-bounds-stream-row-start : goal.slice-bounds-stream-row-start
-slice-bounds-stream-row-start g c =
+pub slice_bounds-stream_row-start : goal.slice_bounds-stream_row-start
+slice_bounds-stream_row-start g c =
     let w = c.args.grid.width in
     let start : c.loop-row.row * c.width-width.result ≡ c.loop-row.row * w = ap (λ (x : ℕ). c.loop-row.row * x) c.width-width.ensures.value in
     let f = row_fits_lem c.loop-row.row w c.args.grid.height (omega (arith, c.loop-row-test.true, c.height-height.ensures.value)) in
@@ -35,7 +35,7 @@ loop-row-preserved g c =
     let h = c.args.grid.height in
     let r = c.loop-row.row in
     let xs = c.loop-row.field in
-    let ys = c.stream-row.new.to in
+    let ys = c.stream_row.new.to in
     let wide = c.width-width.ensures.value in
     let below : r < h = omega (arith, c.loop-row-test.true, c.height-height.ensures.value) in
     let f = row_fits_lem r w h below in
@@ -43,9 +43,9 @@ loop-row-preserved g c =
     let start : r * c.width-width.result ≡ r * w = ap (λ (x : ℕ). r * x) wide in
     let part = take (length xs - r * c.width-width.result) (drop (r * c.width-width.result) xs) in
     let part-is : length part ≡ length xs - r * c.width-width.result = part_long xs (r * c.width-width.result) (omega arith) in
-    let long : length ys ≡ length xs - r * w = c.stream-row.auto.to ∙ part-is ∙ ap (λ (v : ℕ). length xs - r * v) wide in
+    let long : length ys ≡ length xs - r * w = c.stream_row.auto.to ∙ part-is ∙ ap (λ (v : ℕ). length xs - r * v) wide in
     let fit : row_fits w h r from part ≡ true = both (ltb r h) (leb (w * h) (length from) && leb w (length part)) (lt-ltb r h below) (both (leb (w * h) (length from)) (leb w (length part)) (le-leb (w * h) (length from) c.requires.from) (le-leb w (length part) (omega arith))) in
-    let told = c.stream-row.ensures in
+    let told = c.stream_row.ensures in
     subst (λ (v : ℕ). Filled ((r + 1) * w) (arriving m w h from) c.args.field.now (put_mid (r * v) (length xs - r * v) xs ys)) (sym wide)
     (filled_more (arriving m w h from) c.args.field.now xs ys r w fits long
     (told.row fit)

@@ -11,7 +11,7 @@ loop-byte-preserved c =
     let i = c.loop-byte.byte-index in
     let bytes = c.args.bytes.now in
     puts_same (sym (take_more bytes i 0 c.loop-byte-test.true))
-    (puts_then (omega arith) c.loop-byte.invariant (puts_byte (get_or bytes i 0) c.put-byte-end.ensures.end c.put-byte-end.ensures.out))
+    (puts_then (omega arith) c.loop-byte.invariant (puts_byte (get_or bytes i 0) c.put_byte-end.ensures.end c.put_byte-end.ensures.out))
 
 pub returns : goal.returns
 returns c = puts_same (take_all c.loop-byte.byte-index c.args.bytes.now c.loop-byte-test.false) c.loop-byte.invariant

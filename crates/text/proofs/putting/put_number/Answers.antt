@@ -8,4 +8,4 @@ returns c =
     let start = c.digits-start.result.1 in
     let buffer = c.digits-start.result.0 in
     let long : length buffer ≡ 20 = search rules in
-    puts_same (take_all _ (drop start buffer) (omega (arith, length-drop start buffer)) ∙ c.digits-start.ensures.text) c.put-bytes.ensures
+    puts_same (take_all _ (drop start buffer) (omega (arith, length-drop start buffer)) ∙ c.digits-start.ensures.text) c.put_bytes.ensures

@@ -10,5 +10,5 @@ pub returns : goal.returns
 returns c =
     let same = to_z-of_z w64 c.args.number c.ranges.number in
     puts_same (sign_digits c.args.number)
-    (puts_then (omega arith) (puts_same (c.sign-of.ensures ∙ ap (λ (z : ℤ). sign_text (lt_z z (pos 0))) same) c.put-bytes-first.ensures)
-    (puts_same (ap decimal (c.unsigned-abs.ensures.value ∙ ap nat_abs same)) c.put-number.ensures))
+    (puts_then (omega arith) (puts_same (c.sign_of.ensures ∙ ap (λ (z : ℤ). sign_text (lt_z z (pos 0))) same) c.put_bytes-first.ensures)
+    (puts_same (ap decimal (c.unsigned_abs.ensures.value ∙ ap nat_abs same)) c.put_number.ensures))

@@ -1,5 +1,5 @@
 use Rattle.hexagonal.specs.HouseLemmas.{table_good}
 use Rattle.hexagonal.proofs.table.HexagonalGas.new.Goals as goal
 
-pub invariant-of-result : goal.invariant-of-result
-invariant-of-result c = (table_good, tt)
+pub invariant_of-result : goal.invariant_of-result
+invariant_of-result c = record { sound = table_good }

@@ -1,11 +1,9 @@
-use Rattle.std.proofs.Common.{◌≡◌, ℕ, ◌+◌, ◌<◌, ◌≤◌, true, List, length, get_or, Some, None, Err, Option, Result, sym, refl, ap, ◌∙◌, subst, arith, rules}
+use Rattle.std.proofs.Common.{◌≡◌, ℕ, ◌+◌, true, List, get_or, Some, None, Err, Option, Result, sym, ap, ◌∙◌, subst, arith}
 use Rattle.std.proofs.lemmas.Result.{err_from_is_err_and}
 use Rattle.faults.specs.declared.call.CallFault.{CallFault}
 use Rattle.lattice.proofs.Cells.{lawful_grid}
-use Rattle.book.specs.declared.account.Account.{Account}
-use Rattle.book.specs.Accounts.{accounts, none, account_fits, book_fits}
+use Rattle.book.specs.Accounts.{none, account_fits, book_fits}
 use Rattle.book.proofs.Ranges.{fits_at, fits_all}
-use Rattle.dynamics.specs.Tunnels.{RunState, Tunnel}
 use Rattle.dynamics.specs.Pushes.{after_steps}
 use Rattle.dynamics.specs.Soundness.{SoundRun, SoundTunnel}
 use Rattle.dynamics.proofs.Whole.{steps_keep}
@@ -17,13 +15,13 @@ use Rattle.run.specs.declared.run.Run.{Run}
 use Rattle.run.specs.View.{view}
 use Rattle.calls.specs.Grounds.{advance_fault}
 use Rattle.calls.specs.Outcomes.{reply, leaves}
-use Rattle.calls.proofs.NoFaults.{reply-none, reply_some, Allowed, allowed}
+use Rattle.calls.proofs.NoFaults.{reply-none, reply_some, allowed}
 use Rattle.calls.proofs.Sound.{sound_scene}
 use Rattle.run.proofs.run.Run.advance.Given as given
 use Rattle.run.proofs.run.Run.advance.Goals as goal
 
 -- a run and the buffers of an advance that no ground refuses make a sound tunnel
-sound_advance : (g : given.Over) (run : Run _ _) (k : ℕ) (map field spare : List ℕ) → advance_fault (view g.G.Gas g.S.TwistSource run) k map field spare ≡ None
+sound_advance : (g : given.Over) (run : Run _ _ g.G.Gas g.S.TwistSource) (k : ℕ) (map field spare : List ℕ) → advance_fault (view g.G.Gas g.S.TwistSource run) k map field spare ≡ None
     → SoundTunnel (scene_of (view g.G.Gas g.S.TwistSource run) map field)
 sound_advance g run k map field spare unfaulted =
     let s = view g.G.Gas g.S.TwistSource run in
@@ -39,16 +37,16 @@ sound_advance g run k map field spare unfaulted =
     } in
     sound_scene s sound map field ok.map_long ok.field_long ok.map_in ok.field_in
 
-pub returns-in-err-judge-advance : goal.returns-in-err-judge-advance
-returns-in-err-judge-advance g c =
+pub returns-in_err-judge_advance : goal.returns-in_err-judge_advance
+returns-in_err-judge_advance g c =
     let s = view g.G.Gas g.S.TwistSource c.args.self.now in
     let k = c.args.k in
     let map = c.args.map.now in
     let field = c.args.field.now in
     let spare = c.args.spare.now in
-    let fault = c.in-err-judge-advance.field-0.0 in
-    let told = err_from_is_err_and c.from-residual.result c.from-residual.ensures.1 in
-    let held : advance_fault s k map field spare ≡ Some fault = reply_some fault (advance_fault s k map field spare) tt c.in-err-judge-advance.ensures in
+    let fault = c.in_err-judge_advance.field-0.0 in
+    let told = err_from_is_err_and c.from_residual.result c.from_residual.ensures.1 in
+    let held : advance_fault s k map field spare ≡ Some fault = reply_some fault (advance_fault s k map field spare) tt c.in_err-judge_advance.ensures in
     let t = scene_of s map field in
     record {
       answer = told.1 ∙ ap {B = Result ℕ CallFault} Err told.2 ∙ ap (λ (o : Option CallFault). reply o (s.steps + k)) (sym held);
@@ -57,32 +55,32 @@ returns-in-err-judge-advance g c =
       spare_is = ap (λ (o : Option CallFault). leaves o spare (spare_after k t spare)) (sym held);
     }
 
-pub take-steps-requires : goal.take-steps-requires
-take-steps-requires g c =
+pub take_steps-requires : goal.take_steps-requires
+take_steps-requires g c =
     let s = view g.G.Gas g.S.TwistSource c.args.self.now in
     let map = c.args.map.now in
     let field = c.args.field.now in
     let spare = c.args.spare.now in
-    let unfaulted = reply-none (advance_fault s c.args.k map field spare) tt tt c.in-ok-judge-advance.ensures in
+    let unfaulted = reply-none (advance_fault s c.args.k map field spare) tt tt c.in_ok-judge_advance.ensures in
     let ok = allowed s c.args.k map field spare unfaulted in
     record { sound = sound_advance g c.args.self.now c.args.k map field spare unfaulted; spare = ok.spare_long; steps = ok.few }
 
-pub invariant-of-self : goal.invariant-of-self
-invariant-of-self g c =
+pub invariant_of-self : goal.invariant_of-self
+invariant_of-self g c =
     let run = c.args.self.now in
     let s = view g.G.Gas g.S.TwistSource run in
     let k = c.args.k in
     let map = c.args.map.now in
     let field = c.args.field.now in
     let spare = c.args.spare.now in
-    let unfaulted = reply-none (advance_fault s k map field spare) tt tt c.in-ok-judge-advance.ensures in
+    let unfaulted = reply-none (advance_fault s k map field spare) tt tt c.in_ok-judge_advance.ensures in
     let t = scene_of s map field in
     let kept = (steps_keep k t (sound_advance g run k map field spare unfaulted)).sound.run in
     let fits : book_fits (run.steps + k) (after_steps k t).run.book ≡ true =
     fits_all (run.steps + k) (after_steps k t).run.book (λ n l.
     subst (λ (m : ℕ). account_fits m (get_or (after_steps k t).run.book n none) ≡ true) (same k t).steps (kept.book n (omega (arith, kept.book_long)))) in
-    let books = c.take-steps.ensures.book_is in
-    (run.slow, ((allowed s k map field spare unfaulted).few, (subst (λ b. book_fits (run.steps + k) b ≡ true) (sym books) fits, tt)))
+    let books = c.take_steps.ensures.book_is in
+    record { slow = run.slow; few = (allowed s k map field spare unfaulted).few; ranged = subst (λ b. book_fits (run.steps + k) b ≡ true) (sym books) fits }
 
 pub returns : goal.returns
 returns g c =
@@ -91,11 +89,11 @@ returns g c =
     let map = c.args.map.now in
     let field = c.args.field.now in
     let spare = c.args.spare.now in
-    let unfaulted : advance_fault s k map field spare ≡ None = reply-none _ tt tt c.in-ok-judge-advance.ensures in
+    let unfaulted : advance_fault s k map field spare ≡ None = reply-none _ tt tt c.in_ok-judge_advance.ensures in
     let t = scene_of s map field in
     let kept = same k t in
-    let taken = c.take-steps.ensures in
-    let after : record { gas = s.gas; entries = s.entries; twist = g.S.TwistSource.model c.take-steps.new.source; mark = g.S.TwistSource.mark c.take-steps.new.source; width = s.width; height = s.height; period = s.period; steps = s.steps + k; book = c.take-steps.new.book.accounts } ≡ (after_steps k t).run = λ j. record {
+    let taken = c.take_steps.ensures in
+    let after : record { gas = s.gas; entries = s.entries; twist = g.S.TwistSource.model c.take_steps.new.source; mark = g.S.TwistSource.mark c.take_steps.new.source; width = s.width; height = s.height; period = s.period; steps = s.steps + k; book = c.take_steps.new.book.accounts } ≡ (after_steps k t).run = λ j. record {
       gas = sym kept.gas j;
       entries = sym kept.entries j;
       twist = (taken.twist_is ∙ sym kept.twist) j;

@@ -17,10 +17,10 @@ returns g c =
     let map = c.args.map.now in
     let field = c.args.field.now in
     let out = c.args.out.now in
-    let unfaulted : mark_fault s map field out ≡ None = reply-none _ tt tt c.in-ok-judge-mark.ensures in
+    let unfaulted : mark_fault s map field out ≡ None = reply-none _ tt tt c.in_ok-judge_mark.ensures in
     let file = file_of (scene_of s map field) in
     record {
-      answer = ap Ok c.write-file.ensures.answer ∙ ap (λ (o : Option CallFault). reply o (file_length s.gas (cells s))) (sym unfaulted);
+      answer = ap Ok c.write_file.ensures.answer ∙ ap (λ (o : Option CallFault). reply o (file_length s.gas (cells s))) (sym unfaulted);
       run = refl;
-      out_is = c.write-file.ensures.written ∙ ap (λ (o : Option CallFault). leaves o out (over file out)) (sym unfaulted);
+      out_is = c.write_file.ensures.written ∙ ap (λ (o : Option CallFault). leaves o out (over file out)) (sym unfaulted);
     }

@@ -1,5 +1,4 @@
 use Rattle.std.proofs.Common.{◌≡◌, ℕ, ◌≤◌, true, List, length, sym, ap, ◌∙◌, subst}
-use Rattle.book.specs.declared.account.Account.{Account}
 use Rattle.book.specs.Accounts.{book_fits}
 use Rattle.records.specs.Layout.{parts, payload_at}
 use Rattle.job.specs.declared.head.Head.{Head}
@@ -15,16 +14,20 @@ use Rattle.run.proofs.run.Run.take_job.Goals.{After-payload-2}
 kept : (g : given.Over) (c : After-payload-2 g) → Keeps (g.G.Gas.model c.args.self.now.gas) (g.S.TwistSource.model c.args.self.now.source) (parts c.args.file.now c.args.job.places)
 kept g c = file_keeps _ _ c.args.file.now c.args.job.places c.requires.0.places c.requires.1
 
-pub read-book-self-requires : goal.read-book-self-requires
-read-book-self-requires g c = ap (λ (bs : List ℕ). length bs) c.payload-2.ensures ∙ (kept g (goal.at.read-book-self-requires g c).After-payload-2).book.long
+pub read_book-self-requires : goal.read_book-self-requires
+read_book-self-requires g c = ap (λ (bs : List ℕ). length bs) c.payload-2.ensures ∙ (kept g (goal.at.read_book-self-requires g c).After-payload-2).book.long
 
-pub invariant-of-self : goal.invariant-of-self
-invariant-of-self g c =
-    let keeps = kept g (goal.at.invariant-of-self g c).After-payload-2 in
+pub invariant_of-self : goal.invariant_of-self
+invariant_of-self g c =
+    let keeps = kept g (goal.at.invariant_of-self g c).After-payload-2 in
     let file = c.args.file.now in
     let places = c.args.job.places in
     let head = c.requires.0.head in
-    let books : c.read-book-self.result.accounts ≡ accounts_of (payload_at file places.book) = c.read-book-self.ensures ∙ ap accounts_of c.payload-2.ensures in
-    let fits : book_fits c.args.job.head.steps c.read-book-self.result.accounts ≡ true =
+    let books : c.read_book-self.result.accounts ≡ accounts_of (payload_at file places.book) = c.read_book-self.ensures ∙ ap accounts_of c.payload-2.ensures in
+    let fits : book_fits c.args.job.head.steps c.read_book-self.result.accounts ≡ true =
     (λ j. book_fits (ap (λ (h : Head). h.steps) head j) (books j)) ∙ book_fits_lem (head_in (parts file places)).steps (payload_at file places.book) keeps.book in
-    (subst (λ (h : Head). h.period ≤ 999) (sym head) keeps.head.period, (subst (λ (h : Head). h.steps ≤ 1000000000) (sym head) keeps.head.steps, (fits, tt)))
+    record {
+      slow = subst (λ (h : Head). h.period ≤ 999) (sym head) keeps.head.period;
+      few = subst (λ (h : Head). h.steps ≤ 1000000000) (sym head) keeps.head.steps;
+      ranged = fits;
+    }

@@ -1,7 +1,7 @@
 use Rattle.std.proofs.Common.{◌≡◌, length, take, replicate}
 use Rattle.text.specs.Buffers.{Puts}
 use Rattle.encode.specs.Encodings.{book_bytes}
-use Rattle.encode.proofs.book.book_bytes.Given as goal
+use Rattle.encode.proofs.accounts.book_bytes.Given as goal
 
 -- the first accounts stand in the buffer
 abbrev pub invariant-loop-index : goal.invariant-loop-index
