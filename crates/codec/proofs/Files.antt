@@ -1,7 +1,7 @@
 -- A file that is read writes back, less its skippable records.
 use Rattle.std.proofs.Common.{◌≡◌, ℕ, ◌<◌, List, [], ◌∷◌, map, length, sym, refl, ap, ◌∙◌, subst, arith}
 use lib.ListN.{length-map}
-use Rattle.std.specs.List.{AllByRecursion as All}
+use Rattle.std.specs.List.{AllByRecursion}
 use Rattle.std.proofs.lemmas.List.{nil_from_length, get_or-map}
 use Rattle.std.proofs.ByRecursion.{All-weaker, All-map, all_kept_by, All-get_or}
 use Rattle.gas.specs.Model.{GasModel}
@@ -45,8 +45,8 @@ module _ (file : List ℕ) (rs : List Rec) (is : IsFile largest_file file rs) wh
       ∙ sym (length-map (kept rs) (λ r. r.kind)) ∙ ap length is.order
 
   -- all payloads are bytes
-  all : All Bytes (map (λ p. p.1) (numbered rs))
-  all = subst (All Bytes) (sym (numbered_payloads 0 rs)) (All-map Bytes (λ r. r.payload) (kept rs) (All-weaker Fine (λ r. Bytes r.payload) (λ r f. f.bytes) (kept rs) (all_kept_by _ Fine rs is.fine)))
+  all : AllByRecursion Bytes (map (λ p. p.1) (numbered rs))
+  all = subst (AllByRecursion Bytes) (sym (numbered_payloads 0 rs)) (All-map Bytes (λ r. r.payload) (kept rs) (All-weaker Fine (λ r. Bytes r.payload) (λ r f. f.bytes) (kept rs) (all_kept_by _ Fine rs is.fine)))
 
   pub payload_bytes : (k : ℕ) → k < 6 → Bytes (bytes_at k (numbered rs))
   payload_bytes k l =

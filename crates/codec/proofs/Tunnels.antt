@@ -2,7 +2,7 @@
 use Rattle.std.proofs.Common.{◌≡◌, ℕ, ◌+◌, ◌-◌, ◌*◌, ◌<◌, ◌≤◌, true, false, List, [], ◌∷◌, ◌++◌, length, get_or, sym, refl, ap, subst, ⊎_elim, arith, w64, of_z}
 use Rattle.std.proofs.lemmas.Bool.{cases_lt}
 use Rattle.dynamics.specs.Roles.{highest_map_byte}
-use Rattle.std.specs.List.{flat_map, AllByRecursion as All}
+use Rattle.std.specs.List.{flat_map, AllByRecursion}
 use Rattle.std.proofs.ByRecursion.{All-append, All-from_get_or}
 use Rattle.gas.specs.Model.{GasModel, states}
 use Rattle.gas.specs.Laws.{GasLaws}
@@ -75,7 +75,7 @@ module _ (t : Tunnel) (st : Storable t) where
   short : length (file_of t) ≤ largest_file
   short = omega (arith, long, few_states t.run.gas run.gas, run.grid.few)
 
-  bytes : All (λ r. (r.kind < 256) × Bytes r.payload) (records_of t)
+  bytes : AllByRecursion (λ r. (r.kind < 256) × Bytes r.payload) (records_of t)
   bytes =
       let few = few_states t.run.gas run.gas in
       let map_bytes = All-from_get_or (λ b. b < 256) t.map 0 (λ i l. omega (arith, sound.map i (omega (arith, sound.map_long)))) in

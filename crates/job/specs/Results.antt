@@ -1,6 +1,6 @@
 -- What a judged file is: its head, its grid, and where its payloads lie.
 use Rattle.std.specs.Prelude.{◌≡◌, ℕ, List, Ok}
-use Rattle.std.specs.List.{AllByRecursion as All}
+use Rattle.std.specs.List.{AllByRecursion}
 use Rattle.lattice.specs.declared.grid.Grid.{Grid}
 use Rattle.records.specs.Layout.{Inside, listed, parts}
 use Rattle.records.specs.Walk.{walked, largest_file}
@@ -21,6 +21,6 @@ pub record SettingsOf (bytes : List ℕ) (s : Settings) : Type 0 where
 
 pub record IsJob (file : List ℕ) (j : Job) : Type 0 where
   pub places : walked largest_file file ≡ Ok j.places
-  pub inside : All (Inside file) (listed j.places)
+  pub inside : AllByRecursion (Inside file) (listed j.places)
   pub head : j.head ≡ head_in (parts file j.places)
   pub grid : GridOf (head_in (parts file j.places)) j.grid

@@ -1,6 +1,6 @@
 // A file as a job: its records, and then its payloads in file order.
 ghost use Rattle.std.specs.Prelude.{◌≡◌, ℕ};
-ghost use Rattle.std.specs.List.{AllByRecursion as All};
+ghost use Rattle.std.specs.List.{AllByRecursion};
 ghost use Rattle.records.specs.Layout.{Inside, listed, parts, payload_at};
 ghost use Rattle.job.specs.Grounds.{head_fault};
 ghost use Rattle.job.specs.Jobs.{payloads_fault, job_fault};
@@ -32,7 +32,7 @@ fn judge_payloads<G: Gas, S: TwistSource>(
     file: &[u8],
     places: Places,
 ) -> Result<Settings, JobFault>
-    requires { All (Inside file.now) (listed places) }
+    requires { AllByRecursion (Inside file.now) (listed places) }
     ensures { Judged (payloads_fault (G.Gas.model gas.now) (S.TwistSource.model source.now) (parts file.now places)) (SettingsOf (payload_at file.now places.head)) result }
 {
     let settings = judge_head(gas, source, places.head.record, places.head.payload(file))?;

@@ -1,6 +1,6 @@
 -- A done walk found records in order.
 use Rattle.std.proofs.Common.{◌≡◌, ℕ, ◌+◌, ◌<◌, ◌≤◌, List, [], ◌∷◌, ◌++◌, map, length, drop, Ok, sym, ap, ◌∙◌, subst, arith}
-use Rattle.std.specs.List.{AllByRecursion as All}
+use Rattle.std.specs.List.{AllByRecursion}
 use Rattle.std.proofs.lemmas.List.{map-append, drop_all}
 use Rattle.std.proofs.ByRecursion.{All-append, All-drop}
 use Rattle.records.specs.declared.sequence.Next.TheVariants.{End}
@@ -58,7 +58,7 @@ module _ (limit : ℕ) (file : List ℕ) (places : Places) (all : Bytes file) (s
             ∙ (λ i. (ap (map (part file)) (sym seen) ∙ p.found) i ++ (part_of file t.stop i ∷ []))
             ∙ ap (λ n. numbered_from 0 rs ++ ((n, payload_of here) ∷ [])) p.counts
             ∙ sym (numbered-append 0 rs (last ∷ []));
-        inside = subst (All (Inside file)) (sym notes) (All-append (Inside file) (filled End t.stop.places) (x ∷ []) (subst (All (Inside file)) seen (p.inside tt)) (inside_of file t.stop (omega arith), tt));
+        inside = subst (AllByRecursion (Inside file)) (sym notes) (All-append (Inside file) (filled End t.stop.places) (x ∷ []) (subst (AllByRecursion (Inside file)) seen (p.inside tt)) (inside_of file t.stop (omega arith), tt));
       }
 
 pub done_found : (limit : ℕ) (file : List ℕ) (places : Places) → Bytes file → walked limit file ≡ Ok places → (rs : List Rec) × Found limit file places rs

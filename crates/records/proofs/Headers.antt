@@ -2,7 +2,7 @@
 use Rattle.std.proofs.Common.{◌≡◌, ℕ, ◌+◌, ◌^◌, ◌<◌, ◌≤◌, List, [], ◌∷◌, ◌++◌, length, get_or, take, drop, sym, refl, ap, ◌∙◌, subst, arith, length-drop, take-append-drop, drop-drop}
 use Rattle.std.proofs.lemmas.List.{take_at, drop_at, length-take-le}
 use Rattle.std.proofs.ByRecursion.{All-get_or, All-take, All-drop, All-append}
-use Rattle.std.specs.List.{AllByRecursion as All}
+use Rattle.std.specs.List.{AllByRecursion}
 use Rattle.records.specs.Format.{Bytes, number, le, header_of, check_of, record_of}
 use Rattle.records.specs.Walk.{whole_of, payload_of}
 use Rattle.records.specs.Files.{Rec, rec, Fine, laid}
@@ -96,6 +96,6 @@ pub record_bytes : (r : Rec) → Fine r → Bytes (record_of r.kind r.payload)
 unfolding record_of
 record_bytes r fine = (fine.one_byte, All-append (λ b. b < 256) (le 3 (length r.payload)) (le 4 (check_of r.payload) ++ r.payload) (le_bytes 3 (length r.payload)) (All-append (λ b. b < 256) (le 4 (check_of r.payload)) r.payload (le_bytes 4 (check_of r.payload)) fine.bytes))
 
-pub laid_bytes : (rs : List Rec) → All Fine rs → Bytes (laid rs)
+pub laid_bytes : (rs : List Rec) → AllByRecursion Fine rs → Bytes (laid rs)
 laid_bytes [] fine = tt
 laid_bytes (r ∷ rs) fine = All-append (λ b. b < 256) (record_of r.kind r.payload) (laid rs) (record_bytes r fine.0) (laid_bytes rs fine.1)

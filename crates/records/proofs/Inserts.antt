@@ -1,6 +1,6 @@
 -- A skippable record put in or taken out.
 use Rattle.std.proofs.Common.{◌≡◌, ℕ, ◌+◌, ◌<◌, ◌≤◌, Bool, true, false, cond, ◌≢◌, List, [], ◌∷◌, ◌++◌, map, length, Ok, sym, refl, ap, ◌∙◌, subst, append-nil, arith, length-append}
-use Rattle.std.specs.List.{AllByRecursion as All}
+use Rattle.std.specs.List.{AllByRecursion}
 use Rattle.std.proofs.lemmas.List.{map-append}
 use Rattle.std.proofs.ByRecursion.{All-append}
 use Rattle.std.proofs.lemmas.Bool.{lt-ltb, le-ltb}
@@ -47,7 +47,7 @@ numbers_shift fs s gs high =
 pub kinds_without : (fs : List Rec) (s : Rec) (gs : List Rec) → 128 ≤ s.kind → kinds (fs ++ s ∷ gs) ≡ kinds (fs ++ gs)
 kinds_without fs s gs high = kinds-append fs (s ∷ gs) ∙ ap (λ l. kinds fs ++ l) (kinds_skipped s gs high) ∙ sym (kinds-append fs gs)
 
-module _ (limit : ℕ) (fs : List Rec) (s : Rec) (unended : All (λ f. f.kind ≢ 1) fs) (ff : All Fine fs) (fine : Fine s) (high : 128 ≤ s.kind) where
+module _ (limit : ℕ) (fs : List Rec) (s : Rec) (unended : AllByRecursion (λ f. f.kind ≢ 1) fs) (ff : AllByRecursion Fine fs) (fine : Fine s) (high : 128 ≤ s.kind) where
   last_with : (gs : List Rec) → last_kind (fs ++ gs) ≡ 1 → last_kind (fs ++ s ∷ gs) ≡ 1
   last_with [] e = absurd (last_unended fs unended (ap last_kind (sym (append-nil fs)) ∙ e))
   last_with (g ∷ gs) e = last_append fs s (g ∷ gs) ∙ sym (last_append fs g gs) ∙ e

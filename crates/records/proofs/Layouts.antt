@@ -1,6 +1,6 @@
 -- A walk is done exactly of the files that are records in order.
 use Rattle.std.proofs.Common.{◌≡◌, ℕ, ◌+◌, ◌<◌, ◌≢◌, List, [], ◌∷◌, ◌++◌, length, drop, Ok, Err, Result, sym, ap, ◌∙◌, subst, ⊎_elim, append-nil, arith}
-use Rattle.std.specs.List.{AllByRecursion as All}
+use Rattle.std.specs.List.{AllByRecursion}
 use Rattle.std.proofs.lemmas.List.{append_cancel_left}
 use Rattle.std.proofs.lemmas.Bool.{cases_lt, eq-eqb, ne_eqb}
 use Rattle.faults.specs.declared.record.RecordFault.{RecordFault}
@@ -66,7 +66,7 @@ stopped_more (Ok q) m e = let z : ◌≡◌ {A = ℕ} 0 1 = cc in omega arith
 stopped_more (Err f) m e = let z : ◌≡◌ {A = ℕ} 0 1 = cc in omega arith
 
 -- a walk over records in order that has passed some of them stops at the end record
-stops_at_end : (file : List ℕ) (r : Result Places RecordFault) (t : Trail file begin r) (gs : List Rec) → All Fine gs → drop t.stop.at file ≡ laid gs → kinds gs ≡ kinds_from t.stop.order.next → last_kind (t.records ++ gs) ≡ 1 → (places : Places) × (r ≡ Ok places)
+stops_at_end : (file : List ℕ) (r : Result Places RecordFault) (t : Trail file begin r) (gs : List Rec) → AllByRecursion Fine gs → drop t.stop.at file ≡ laid gs → kinds gs ≡ kinds_from t.stop.order.next → last_kind (t.records ++ gs) ≡ 1 → (places : Places) × (r ≡ Ok places)
 stops_at_end file r t [] fine is order last = absurd (last_unended t.records t.passes.unended (ap last_kind (sym (append-nil t.records)) ∙ last))
 stops_at_end file r t (g ∷ []) fine is order last =
     let d = ends t.stop g fine.0 order (sym (last_append t.records g []) ∙ last) in

@@ -1,6 +1,6 @@
 -- Records that a walk passes: one after another, and what is noted of them.
 use Rattle.std.proofs.Common.{◌≡◌, ℕ, ◌+◌, ◌<◌, ◌≤◌, ◌≢◌, List, [], ◌∷◌, ◌++◌, map, length, take, drop, Ok, sym, refl, ap, ◌∙◌, subst, ⊎_elim, append_assoc, append-nil, arith, length-append, length-drop, drop-drop}
-use Rattle.std.specs.List.{AllByRecursion as All}
+use Rattle.std.specs.List.{AllByRecursion}
 use Rattle.std.proofs.lemmas.List.{map-append}
 use Rattle.std.proofs.ByRecursion.{All-append, All-drop}
 use Rattle.std.proofs.lemmas.Bool.{cases_lt}
@@ -22,13 +22,13 @@ noted_at c = filled c.order.next c.places
 
 -- from c the records rs lead to d
 pub record Passed (file : List ℕ) (c d : Cursor) (rs : List Rec) : Type 0 where
-  pub fine : All Fine rs
-  pub unended : All (λ r. r.kind ≢ 1) rs
+  pub fine : AllByRecursion Fine rs
+  pub unended : AllByRecursion (λ r. r.kind ≢ 1) rs
   pub joins : drop c.at file ≡ laid rs ++ drop d.at file
   pub counts : d.count ≡ c.count + length rs
   pub order : kinds rs ++ kinds_from d.order.next ≡ kinds_from c.order.next
   pub found : map (part file) (noted_at d) ≡ map (part file) (noted_at c) ++ numbered_from c.count rs
-  pub inside : All (Inside file) (noted_at c) → All (Inside file) (noted_at d)
+  pub inside : AllByRecursion (Inside file) (noted_at c) → AllByRecursion (Inside file) (noted_at d)
 
 pub stays : (file : List ℕ) (c : Cursor) → Passed file c c []
 stays file c = record { fine = tt; unended = tt; joins = refl; counts = omega arith; order = refl; found = sym (append-nil (map (part file) (noted_at c))); inside = λ h. h }
@@ -87,7 +87,7 @@ module _ (file : List ℕ) (all : Bytes file) (c m : Cursor) (goes : turn c (dro
         counts = omega arith;
         order = (λ i. kinds_skipped front [] high i ++ kinds_from (same i));
         found = ap (λ x. map (part file) (filled x c.places)) same ∙ sym (ap (λ l. before ++ l) (numbered_skipped c.count front [] high) ∙ append-nil before);
-        inside = λ h. subst (λ x. All (Inside file) (filled x c.places)) (sym same) h;
+        inside = λ h. subst (λ x. AllByRecursion (Inside file) (filled x c.places)) (sym same) h;
       })
 
   passed_known : front.kind < 128 → Passed file c m (front ∷ [])
@@ -106,7 +106,7 @@ module _ (file : List ℕ) (all : Bytes file) (c m : Cursor) (goes : turn c (dro
         counts = omega arith;
         order = (λ i. kinds-known front [] low i ++ kinds_from (moves i)) ∙ ap (λ k. k ∷ kinds_from (following e)) w.0 ∙ sym (kinds_more e some);
         found = ap (map (part file)) notes ∙ map-append (part file) (noted_at c) (x ∷ []) ∙ ap (λ y. before ++ (y ∷ [])) (part_of file c) ∙ sym (ap (λ l. before ++ l) (numbered-known c.count front [] low));
-        inside = λ h. subst (All (Inside file)) (sym notes) (All-append (Inside file) (noted_at c) (x ∷ []) h (inside_of file c (fits c m here goes).0, tt));
+        inside = λ h. subst (AllByRecursion (Inside file)) (sym notes) (All-append (Inside file) (noted_at c) (x ∷ []) h (inside_of file c (fits c m here goes).0, tt));
       })
 
   pub passed : Passed file c m (front ∷ [])

@@ -1,6 +1,6 @@
 -- Lists of records: joined, taken apart, numbered.
 use Rattle.std.proofs.Common.{◌≡◌, ℕ, suc, ◌+◌, ◌^◌, ◌<◌, ◌≤◌, Bool, true, false, cond, not, ◌≢◌, List, [], ◌∷◌, ◌++◌, map, length, sym, refl, ap, ◌∙◌, ⊎_elim, append_assoc, arith, length-append}
-use Rattle.std.specs.List.{AllByRecursion as All}
+use Rattle.std.specs.List.{AllByRecursion}
 use Rattle.std.proofs.lemmas.List.{map-append}
 use Rattle.std.proofs.lemmas.List.Elements.{filter-append}
 use Rattle.std.proofs.lemmas.Bool.{le-leb, lt-leb, cases_lt}
@@ -51,7 +51,7 @@ last_append (f ∷ []) g gs = refl
 last_append (f ∷ h ∷ fs) g gs = last_append (h ∷ fs) g gs
 
 -- where no record is the end record, the last is not
-pub last_unended : (fs : List Rec) → All (λ f. f.kind ≢ 1) fs → last_kind fs ≡ 1 → ⊥
+pub last_unended : (fs : List Rec) → AllByRecursion (λ f. f.kind ≢ 1) fs → last_kind fs ≡ 1 → ⊥
 last_unended [] all e = omega arith
 last_unended (f ∷ []) all e = all.0 e
 last_unended (f ∷ h ∷ fs) all e = last_unended (h ∷ fs) all.1 e
@@ -101,7 +101,7 @@ pub kept_paired : (rs : List Rec) (ps : List (List ℕ)) → kinds rs ≡ in_ord
 kept_paired rs ps order is = records_paired (kept rs) ∙ (λ i. paired (order i) ((sym (numbered_payloads 0 rs) ∙ is) i))
 
 -- payloads fit their length field where the whole file is short
-pub fine_laid : (rs : List Rec) → All (λ r. (r.kind < 256) × Bytes r.payload) rs → length (laid rs) < 2 ^ 24 → All Fine rs
+pub fine_laid : (rs : List Rec) → AllByRecursion (λ r. (r.kind < 256) × Bytes r.payload) rs → length (laid rs) < 2 ^ 24 → AllByRecursion Fine rs
 fine_laid [] all short = tt
 fine_laid (r ∷ rs) all short =
     let l = length-append (record_of r.kind r.payload) (laid rs) in

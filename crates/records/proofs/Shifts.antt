@@ -1,6 +1,6 @@
 -- A fault beside a skippable record that is put in.
 use Rattle.std.proofs.Common.{◌≡◌, ℕ, ◌+◌, ◌<◌, ◌≤◌, ◌≢◌, ◌⊎◌, List, [], ◌∷◌, ◌++◌, length, Err, sym, ap, ◌∙◌, subst, inl, inr, ⊎_elim, append_assoc, append-nil, arith, length-append}
-use Rattle.std.specs.List.{AllByRecursion as All}
+use Rattle.std.specs.List.{AllByRecursion}
 use Rattle.std.proofs.ByRecursion.{All-append}
 use Rattle.std.proofs.lemmas.Bool.{lt-ltb, le-ltb}
 use Rattle.faults.specs.declared.record.RecordFault.{RecordFault}
@@ -53,7 +53,7 @@ module _ (n : ℕ) (rs : List Rec) (g : Rec) (x y : List ℕ) (near : length rs 
   reason_stays (Ending r) (inl (is, none)) = absurd (omega (arith, ap length none, length-append one x, length_record g.kind g.payload))
   reason_stays (Ending r) (inr (is, (stands, end, last, longer))) = absurd (more (sym (kind_of g.kind g.payload x) ∙ end))
 
-module _ (fs : List Rec) (s : Rec) (back : List ℕ) (ff : All Fine fs) (unended : All (λ f. f.kind ≢ 1) fs) (fine : Fine s) (high : 128 ≤ s.kind) (f : RecordFault) (first : FirstFault (laid fs ++ back) f) where
+module _ (fs : List Rec) (s : Rec) (back : List ℕ) (ff : AllByRecursion Fine fs) (unended : AllByRecursion (λ f. f.kind ≢ 1) fs) (fine : Fine s) (high : 128 ≤ s.kind) (f : RecordFault) (first : FirstFault (laid fs ++ back) f) where
   abbrev put : List ℕ
   put = record_of s.kind s.payload
 
@@ -67,8 +67,8 @@ module _ (fs : List Rec) (s : Rec) (back : List ℕ) (ff : All Fine fs) (unended
         before = fs ++ s ∷ hs;
         here = here;
         joins = ap (λ l. laid fs ++ (put ++ l)) goes ∙ ap (λ l. laid fs ++ l) (sym (append_assoc put (laid hs) here)) ∙ sym (append_assoc (laid fs) (laid (s ∷ hs)) here) ∙ ap (λ l. l ++ here) (sym (laid-append fs (s ∷ hs)));
-        fine = All-append Fine fs (s ∷ hs) ff (fine, all_behind Fine fs hs (subst (All Fine) is first.fine));
-        unended = All-append (λ r. r.kind ≢ 1) fs (s ∷ hs) unended ((λ z. omega arith), all_behind (λ r. r.kind ≢ 1) fs hs (subst (All (λ r. r.kind ≢ 1)) is first.unended));
+        fine = All-append Fine fs (s ∷ hs) ff (fine, all_behind Fine fs hs (subst (AllByRecursion Fine) is first.fine));
+        unended = All-append (λ r. r.kind ≢ 1) fs (s ∷ hs) unended ((λ z. omega arith), all_behind (λ r. r.kind ≢ 1) fs hs (subst (AllByRecursion (λ r. r.kind ≢ 1)) is first.unended));
         order = (first.order.0, ap (λ l. l ++ first.order.0) same ∙ first.order.1);
         reason = reason_shifts (length fs) first.before (fs ++ s ∷ hs) here f (omega arith) (omega arith) same first.reason;
       }
@@ -79,8 +79,8 @@ module _ (fs : List Rec) (s : Rec) (back : List ℕ) (ff : All Fine fs) (unended
       let one-record = record_of g.kind g.payload in
       let assoc : (z : List ℕ) → laid (g ∷ hs) ++ z ≡ one-record ++ (laid hs ++ z) = λ z. append_assoc one-record (laid hs) z in
       let near : length rs < length fs = omega (arith, ap length is, length-append rs (g ∷ hs)) in
-      let fine-g = (all_behind Fine rs (g ∷ hs) (subst (All Fine) is ff)).0 in
-      let more = (all_behind (λ r. r.kind ≢ 1) rs (g ∷ hs) (subst (All (λ r. r.kind ≢ 1)) is unended)).0 in
+      let fine-g = (all_behind Fine rs (g ∷ hs) (subst (AllByRecursion Fine) is ff)).0 in
+      let more = (all_behind (λ r. r.kind ≢ 1) rs (g ∷ hs) (subst (AllByRecursion (λ r. r.kind ≢ 1)) is unended)).0 in
       record {
         before = rs;
         here = one-record ++ (laid hs ++ (put ++ back));
@@ -99,7 +99,7 @@ module _ (fs : List Rec) (s : Rec) (back : List ℕ) (ff : All Fine fs) (unended
   fault_shifts : FirstFault (laid fs ++ (put ++ back)) (fault_shifted (length fs) f)
   fault_shifts = fault_meets (laid_meet first.before fs first.here back first.fine ff (sym first.joins))
 
-refused_shifts : (limit : ℕ) (fs : List Rec) (s : Rec) (back : List ℕ) → All Fine fs → All (λ f. f.kind ≢ 1) fs → Fine s → 128 ≤ s.kind → Bytes back → length (laid fs ++ (record_of s.kind s.payload ++ back)) ≤ limit → (f : RecordFault) → 0 < length (laid fs ++ back) → walked limit (laid fs ++ back) ≡ Err f → walked limit (laid fs ++ (record_of s.kind s.payload ++ back)) ≡ Err (fault_shifted (length fs) f)
+refused_shifts : (limit : ℕ) (fs : List Rec) (s : Rec) (back : List ℕ) → AllByRecursion Fine fs → AllByRecursion (λ f. f.kind ≢ 1) fs → Fine s → 128 ≤ s.kind → Bytes back → length (laid fs ++ (record_of s.kind s.payload ++ back)) ≤ limit → (f : RecordFault) → 0 < length (laid fs ++ back) → walked limit (laid fs ++ back) ≡ Err f → walked limit (laid fs ++ (record_of s.kind s.payload ++ back)) ≡ Err (fault_shifted (length fs) f)
 refused_shifts limit fs s back ff unended fine high bytes small f some e =
     let put = record_of s.kind s.payload in
     let front = laid_bytes fs ff in

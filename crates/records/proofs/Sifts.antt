@@ -1,6 +1,6 @@
 -- A file less its skippable records.
 use Rattle.std.proofs.Common.{◌≡◌, ℕ, zero, suc, ◌≤◌, Bool, true, false, cond, not, eqb, List, [], ◌∷◌, ◌++◌, map, length, sym, refl, ap, ◌∙◌, arith, length-append}
-use Rattle.std.specs.List.{AllByRecursion as All}
+use Rattle.std.specs.List.{AllByRecursion}
 use Rattle.std.proofs.lemmas.List.{take_at}
 use Rattle.std.proofs.lemmas.Bool.{ne_eqb}
 use Rattle.records.specs.declared.payloads.Places.{Places}
@@ -17,7 +17,7 @@ by_kind : (b : Bool) (r : Rec) (rs : List Rec) → cond b [] (record_of r.kind r
 by_kind true r rs = refl
 by_kind false r rs = refl
 
-sift : (n : ℕ) (rs : List Rec) → All Fine rs → length rs ≤ n → sifted n (laid rs) ≡ laid (kept rs)
+sift : (n : ℕ) (rs : List Rec) → AllByRecursion Fine rs → length rs ≤ n → sifted n (laid rs) ≡ laid (kept rs)
 sift zero [] fine long = refl
 sift zero (r ∷ rs) fine long = absurd (omega arith)
 sift (suc n) [] fine long = refl

@@ -1,6 +1,6 @@
 -- The walk tells the first fault, whichever it is.
 use Rattle.std.proofs.Common.{◌≡◌, ℕ, ◌+◌, ◌≤◌, ◌≢◌, ◌⊎◌, List, [], ◌∷◌, ◌++◌, length, drop, Ok, Err, Result, sym, refl, ap, ◌∙◌, subst, inl, inr, append_assoc, arith}
-use Rattle.std.specs.List.{AllByRecursion as All}
+use Rattle.std.specs.List.{AllByRecursion}
 use Rattle.std.proofs.lemmas.List.{append_cancel_left}
 use Rattle.std.proofs.lemmas.Bool.{eq-eqb, ne_eqb}
 use Rattle.std.proofs.lemmas.Bool.Decides.{nat_tests}
@@ -93,8 +93,8 @@ module _ (file : List ℕ) (f : RecordFault) (first : FirstFault file f) (r : Re
       let ks = first.order.0 in
       let e = t.stop.order.next in
       let order = append_cancel_left (kinds t.records) (kinds (g ∷ []) ++ (kinds hs ++ ks)) (kinds_from e) (sym (kinds-first t.records g hs ks) ∙ ap (λ rs. kinds rs ++ ks) (sym is) ∙ first.order.1 ∙ sym t.passes.order) in
-      let fine = (all_behind Fine t.records (g ∷ hs) (subst (All Fine) is first.fine)).0 in
-      let more = (all_behind (λ r. r.kind ≢ 1) t.records (g ∷ hs) (subst (All (λ r. r.kind ≢ 1)) is first.unended)).0 in
+      let fine = (all_behind Fine t.records (g ∷ hs) (subst (AllByRecursion Fine) is first.fine)).0 in
+      let more = (all_behind (λ r. r.kind ≢ 1) t.records (g ∷ hs) (subst (AllByRecursion (λ r. r.kind ≢ 1)) is first.unended)).0 in
       let m = goes_past t.stop g (laid hs ++ first.here) (kinds hs ++ ks) fine more order in
       absurd (stopped_more r m.0 (sym t.stops ∙ ap (turn t.stop) (goes ∙ append_assoc (record_of g.kind g.payload) (laid hs) first.here) ∙ m.1))
   by_meet (behind g hs is goes) =
@@ -103,8 +103,8 @@ module _ (file : List ℕ) (f : RecordFault) (first : FirstFault file f) (r : Re
       let whole : kinds first.before ++ ks ≡ in_order = sym (kinds-first first.before g hs (kinds_from t.stop.order.next)) ∙ ap (λ rs. kinds rs ++ kinds_from t.stop.order.next) (sym is) ∙ p.order in
       let d = yet_to_come begin.order.next (kinds first.before) ks whole in
       let c : Cursor = record { at = 0; count = length first.before; order = record { next = d.0 }; places = begin.places } in
-      let fine = (all_behind Fine first.before (g ∷ hs) (subst (All Fine) is p.fine)).0 in
-      let more = (all_behind (λ r. r.kind ≢ 1) first.before (g ∷ hs) (subst (All (λ r. r.kind ≢ 1)) is p.unended)).0 in
+      let fine = (all_behind Fine first.before (g ∷ hs) (subst (AllByRecursion Fine) is p.fine)).0 in
+      let more = (all_behind (λ r. r.kind ≢ 1) first.before (g ∷ hs) (subst (AllByRecursion (λ r. r.kind ≢ 1)) is p.unended)).0 in
       let why = subst (λ bs. Reason first.before bs f) (goes ∙ append_assoc (record_of g.kind g.payload) (laid hs) there) first.reason in
       absurd (no_reason c first.before g (laid hs ++ there) (kinds hs ++ kinds_from t.stop.order.next) f fine more refl (ap (λ l. kinds first.before ++ l) (sym d.1) ∙ whole) d.1 why)
 

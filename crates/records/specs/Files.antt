@@ -1,6 +1,6 @@
 -- A file is records laid behind each other; without the skippable ones their kinds are 2, 3, 4, 5, 6, 1, and the last is 1.
 use Rattle.std.specs.Prelude.{◌≡◌, ℕ, zero, suc, ◌^◌, ◌<◌, ◌≤◌, cond, not, List, [], ◌∷◌, ◌++◌, map, length, take, drop, filter, ◌==◌}
-use Rattle.std.specs.List.{flat_map, AllByRecursion as All}
+use Rattle.std.specs.List.{flat_map, AllByRecursion}
 use Rattle.records.specs.Format.{Bytes, header_of, record_of}
 use Rattle.records.specs.Orders.{skippable}
 use Rattle.records.specs.Walk.{whole_of}
@@ -43,7 +43,7 @@ in_order = 2 ∷ 3 ∷ 4 ∷ 5 ∷ 6 ∷ 1 ∷ []
 -- the file is these records, and no longer than the limit
 pub record IsFile (limit : ℕ) (file : List ℕ) (rs : List Rec) : Type 0 where
   pub joins : file ≡ laid rs
-  pub fine : All Fine rs
+  pub fine : AllByRecursion Fine rs
   pub order : kinds rs ≡ in_order
   pub last : last_kind rs ≡ 1
   pub short : length file ≤ limit

@@ -1,6 +1,6 @@
 -- A skippable record changes nothing but the numbers behind it, and a file less its skippable records is its other records.
 use Rattle.std.specs.Prelude.{◌≡◌, ℕ, ◌+◌, ◌<◌, ◌≤◌, cond, ◌≢◌, List, ◌++◌, map, length, Ok, Err, nat_lt}
-use Rattle.std.specs.List.{AllByRecursion as All}
+use Rattle.std.specs.List.{AllByRecursion}
 use Rattle.faults.specs.declared.record.RecordFault.{RecordFault}
 use Rattle.faults.specs.declared.record.RecordFault.TheVariants.{Size, Cut, Check, Kind, Order, Ending}
 use Rattle.records.specs.declared.payloads.Places.{Places}
@@ -34,8 +34,8 @@ pub record SameWalk (limit : ℕ) (n : ℕ) (with_it without : List ℕ) : Type 
 
 -- a skippable record, put in behind whole records of which none is the end, changes nothing
 abbrev pub SkipsChangeNothing : Type 0
-SkipsChangeNothing = (limit : ℕ) (fs : List Rec) (s : Rec) (back : List ℕ) → All Fine fs → All (λ f. f.kind ≢ 1) fs → Fine s → 128 ≤ s.kind → Bytes back → length (laid fs ++ (record_of s.kind s.payload ++ back)) ≤ limit → SameWalk limit (length fs) (laid fs ++ (record_of s.kind s.payload ++ back)) (laid fs ++ back)
+SkipsChangeNothing = (limit : ℕ) (fs : List Rec) (s : Rec) (back : List ℕ) → AllByRecursion Fine fs → AllByRecursion (λ f. f.kind ≢ 1) fs → Fine s → 128 ≤ s.kind → Bytes back → length (laid fs ++ (record_of s.kind s.payload ++ back)) ≤ limit → SameWalk limit (length fs) (laid fs ++ (record_of s.kind s.payload ++ back)) (laid fs ++ back)
 
 -- the bytes of records, less the skippable ones, are the bytes of the records that are kept
 abbrev pub Sifts : Type 0
-Sifts = (rs : List Rec) → All Fine rs → less (laid rs) ≡ laid (kept rs)
+Sifts = (rs : List Rec) → AllByRecursion Fine rs → less (laid rs) ≡ laid (kept rs)

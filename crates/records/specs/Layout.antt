@@ -1,6 +1,6 @@
 -- The walk is done exactly of the files that are records in order, and then gives the numbers of the known records and the places of their payloads.
 use Rattle.std.specs.Prelude.{◌≡◌, ℕ, ◌+◌, ◌≤◌, cond, List, [], ◌∷◌, map, length, take, drop, Ok, Result}
-use Rattle.std.specs.List.{AllByRecursion as All}
+use Rattle.std.specs.List.{AllByRecursion}
 use Rattle.faults.specs.declared.record.RecordFault.{RecordFault}
 use Rattle.records.specs.declared.payloads.Place.{Place}
 use Rattle.records.specs.declared.payloads.Places.{Places}
@@ -38,7 +38,7 @@ Inside file p = (8 ≤ p.start) × (p.start + p.length ≤ length file)
 pub record Found (limit : ℕ) (file : List ℕ) (places : Places) (rs : List Rec) : Type 0 where
   pub is_file : IsFile limit file rs
   pub same_parts : parts file places ≡ numbered rs
-  pub inside : All (Inside file) (listed places)
+  pub inside : AllByRecursion (Inside file) (listed places)
 
 -- the walk is done exactly if there are such records, and then it gives their places
 pub record Layout (limit : ℕ) (file : List ℕ) (r : Result Places RecordFault) : Type 0 where

@@ -1,6 +1,6 @@
 -- A refused walk tells the first fault in file order: all records before the one that it names are whole, fit their checks and stand in order.
 use Rattle.std.specs.Prelude.{◌≡◌, ℕ, ◌+◌, ◌<◌, ◌≤◌, ◌≢◌, ◌⊎◌, List, [], ◌∷◌, ◌++◌, length, Err, Result}
-use Rattle.std.specs.List.{AllByRecursion as All}
+use Rattle.std.specs.List.{AllByRecursion}
 use Rattle.faults.specs.declared.record.RecordFault.{RecordFault}
 use Rattle.faults.specs.declared.record.RecordFault.TheVariants.{Size, Cut, Check, Kind, Order, Ending}
 use Rattle.records.specs.declared.payloads.Places.{Places}
@@ -47,8 +47,8 @@ pub record FirstFault (file : List ℕ) (f : RecordFault) : Type 0 where
   pub before : List Rec
   pub here : List ℕ
   pub joins : file ≡ laid before ++ here
-  pub fine : All Fine before
-  pub unended : All (λ r. r.kind ≢ 1) before
+  pub fine : AllByRecursion Fine before
+  pub unended : AllByRecursion (λ r. r.kind ≢ 1) before
   pub order : (ks : List ℕ) × (kinds before ++ ks ≡ in_order)
   pub reason : Reason before here f
 
