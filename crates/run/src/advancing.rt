@@ -18,7 +18,7 @@ const MOST_STEPS: u32 = 65_535;
 const STEP_LIMIT: u32 = 1_000_000_000;
 
 impl<G: Gas, S: TwistSource> Run<G, S> {
-    /// The first ground_of on which `advance` is refused.
+    /// The first ground on which `advance` is refused.
     fn judge_advance(&self, k: u32, map: &[u8], field: &[u8], spare: &[u8]) -> Result<(), CallFault>
         ensures { result ≡ reply (advance_fault (view G.Gas S.TwistSource self.now) k map.now field.now spare.now) tt }
     {

@@ -23,7 +23,7 @@ impl<G: Gas, S: TwistSource> Run<G, S> {
         320 + 2 * states_of(self.gas.channels()) + 2 * self.grid.cells()
     }
 
-    /// The first ground_of on which `mark` is refused.
+    /// The first ground on which `mark` is refused.
     fn judge_mark(&self, map: &[u8], field: &[u8], out: &[u8]) -> Result<(), CallFault>
         ensures { result ≡ reply (mark_fault (view G.Gas S.TwistSource self.now) map.now field.now out.now) tt }
     {

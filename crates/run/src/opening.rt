@@ -27,7 +27,7 @@ fn copy_over(buffer: &mut [u8], bytes: &[u8])
 }
 
 impl<G: Gas, S: TwistSource> Run<G, S> {
-    /// The first ground_of on which `open` is refused, or the job that the file is.
+    /// The first ground on which `open` is refused, or the job that the file is.
     fn judge_open(&self, file: &[u8], map: &[u8], field: &[u8]) -> Result<Job, CallFault>
         ensures { Judged (open_fault (view G.Gas S.TwistSource self.now) file.now map.now field.now) (IsJob file.now) result }
     {

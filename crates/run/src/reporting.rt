@@ -16,7 +16,7 @@ use twist::TwistSource;
 const WIDEST_PATCH: u32 = 64;
 
 impl<G: Gas, S: TwistSource> Run<G, S> {
-    /// The first ground_of on which `report` is refused before its text is measured.
+    /// The first ground on which `report` is refused before its text is measured.
     fn judge_patches(&self, b: u32, field: &[u8]) -> Result<(), CallFault>
         ensures { result ≡ reply (patch_fault (view G.Gas S.TwistSource self.now) b field.now) tt }
     {
