@@ -1,7 +1,7 @@
 -- A book in its range, account by account.
 use Rattle.std.proofs.Common.{◌≡◌, ℕ, zero, suc, ◌<◌, Bool, true, ◌&&◌, List, [], ◌∷◌, length, get_or, refl, ap, ◌∙◌, arith}
 use Rattle.std.proofs.lemmas.Bool.{and_parts}
-use Rattle.book.specs.declared.account.Account.{Account}
+use Rattle.lattice.specs.declared.vector.Vector.{Vector as Account}
 use Rattle.book.specs.Accounts.{none, account_fits, book_fits}
 
 pub fits_at : (steps : ℕ) (book : List Account) → book_fits steps book ≡ true → (k : ℕ) → k < length book → account_fits steps (get_or book k none) ≡ true

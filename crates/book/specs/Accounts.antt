@@ -2,7 +2,7 @@
 -- Each number of an account lies within 458,752 × step count of zero.
 use Rattle.std.specs.Prelude.{ℕ, ◌-◌, ◌*◌, Bool, true, ◌&&◌, List, [], ◌∷◌, pos, ◌+ℤ◌, nat_le, slice_index_or, slice_set, unsigned_abs}
 use Rattle.lattice.specs.declared.vector.Vector.{Vector}
-use Rattle.book.specs.declared.account.Account.{Account}
+use Rattle.lattice.specs.declared.vector.Vector.{Vector as Account}
 
 abbrev pub obstacles : ℕ
 obstacles = 15

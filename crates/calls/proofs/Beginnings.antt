@@ -7,7 +7,7 @@ use Rattle.lattice.specs.Grids.{Lawful}
 use Rattle.gas.specs.Model.{GasModel, states}
 use Rattle.gas.specs.Laws.{GasLaws}
 use Rattle.twist.specs.Model.{TwistModel, TwistLaws}
-use Rattle.book.specs.declared.account.Account.{Account}
+use Rattle.lattice.specs.declared.vector.Vector.{Vector as Account}
 use Rattle.book.specs.Accounts.{accounts, none, account_fits}
 use Rattle.dynamics.specs.Roles.{highest_map_byte}
 use Rattle.dynamics.specs.Tunnels.{Tunnel, cells}

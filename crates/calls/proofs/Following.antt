@@ -5,7 +5,7 @@ use Rattle.std.proofs.lemmas.List.{take_at}
 use Rattle.std.proofs.lemmas.Bool.{leb-false}
 use Rattle.lattice.specs.Grids.{cell_at}
 use Rattle.lattice.proofs.Cells.{cell_below}
-use Rattle.book.specs.declared.account.Account.{Account}
+use Rattle.lattice.specs.declared.vector.Vector.{Vector as Account}
 use Rattle.dynamics.specs.Roles.{highest_map_byte}
 use Rattle.dynamics.specs.Tunnels.{Tunnel, cells}
 use Rattle.dynamics.specs.Pushes.{after_steps}

@@ -3,7 +3,7 @@ use Rattle.std.specs.Prelude.{◌≡◌, ℕ, ◌+◌, ◌*◌, List, length, re
 use Rattle.lattice.specs.Grids.{cell_at}
 use Rattle.gas.specs.Model.{GasModel}
 use Rattle.twist.specs.Model.{TwistModel}
-use Rattle.book.specs.declared.account.Account.{Account}
+use Rattle.lattice.specs.declared.vector.Vector.{Vector as Account}
 use Rattle.book.specs.Accounts.{accounts, none, account_at}
 use Rattle.faults.specs.declared.call.CallFault.{CallFault}
 use Rattle.dynamics.specs.Tunnels.{RunState, cells}

@@ -1,7 +1,7 @@
 -- A log of calls on one run, one map and one field, which nothing else changes. A line is a call that was made, done or refused, with the buffers
 -- that it was handed: of map and field their first so many bytes, of spare and output any contents.
 use Rattle.std.specs.Prelude.{◌≡◌, ℕ, List, [], ◌∷◌, ◌++◌, map, length, take, drop, Ok, Err, Result}
-use Rattle.book.specs.declared.account.Account.{Account}
+use Rattle.lattice.specs.declared.vector.Vector.{Vector as Account}
 use Rattle.dynamics.specs.Tunnels.{RunState, Tunnel}
 use Rattle.step.specs.Scenes.{scene_of}
 use Rattle.faults.specs.declared.call.CallFault.{CallFault}

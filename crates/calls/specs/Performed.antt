@@ -1,6 +1,6 @@
 -- A call put to a run, its map, its field and one other buffer, of whose front the spare or the output is handed over: it is the line of a log.
 use Rattle.std.specs.Prelude.{◌≡◌, ℕ, List, take, drop, Result}
-use Rattle.book.specs.declared.account.Account.{Account}
+use Rattle.lattice.specs.declared.vector.Vector.{Vector as Account}
 use Rattle.faults.specs.declared.call.CallFault.{CallFault}
 use Rattle.calls.specs.declared.call.Call.{Call}
 use Rattle.calls.specs.declared.call.Call.TheVariants.{Advance, Paint, Fan, Report, Account as AccountOf, Mark}

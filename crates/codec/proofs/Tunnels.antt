@@ -7,7 +7,7 @@ use Rattle.std.proofs.ByRecursion.{All-append, All-from_get_or}
 use Rattle.gas.specs.Model.{GasModel, states}
 use Rattle.gas.specs.Laws.{GasLaws}
 use Rattle.gas.specs.Soundness.{SoundTable}
-use Rattle.book.specs.declared.account.Account.{Account}
+use Rattle.lattice.specs.declared.vector.Vector.{Vector as Account}
 use Rattle.dynamics.specs.Tunnels.{RunState, Tunnel, cells}
 use Rattle.dynamics.specs.Soundness.{SoundRun, SoundTunnel}
 use Rattle.records.specs.Format.{Bytes, le}

@@ -5,7 +5,7 @@ use Rattle.std.proofs.lemmas.Bool.{and_parts, and_from, leb-true, le-leb}
 use Rattle.lattice.specs.declared.vector.Vector.{Vector}
 use Rattle.lattice.specs.Sums.{sum_z}
 use Rattle.lattice.proofs.Sums.{sum_same, sum_add}
-use Rattle.book.specs.declared.account.Account.{Account}
+use Rattle.lattice.specs.declared.vector.Vector.{Vector as Account}
 use Rattle.book.specs.Accounts.{none, grown, account_at, most_push, account_fits}
 use Rattle.dynamics.specs.Tunnels.{listed}
 use Rattle.dynamics.proofs.Lists.{get_d_listed}

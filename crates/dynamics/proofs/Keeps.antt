@@ -7,7 +7,7 @@ use Rattle.lattice.specs.Vectors.{added}
 use Rattle.lattice.specs.States.{particles}
 use Rattle.lattice.proofs.Vectors.{same_vector}
 use Rattle.gas.specs.Streaming.{arriving}
-use Rattle.book.specs.declared.account.Account.{Account}
+use Rattle.lattice.specs.declared.vector.Vector.{Vector as Account}
 use Rattle.book.specs.Accounts.{obstacles, fan_account, accounts, none, grown, account_fits}
 use Rattle.dynamics.specs.Tunnels.{Tunnel, cells}
 use Rattle.dynamics.specs.Step.{collided, streamed}

@@ -3,7 +3,7 @@ use Rattle.std.specs.Prelude.{◌≡◌, ℕ, ◌+◌, ◌^◌, ◌<◌, ◌≤�
 use Rattle.lattice.specs.declared.vector.Vector.{Vector}
 use Rattle.lattice.specs.Vectors.{vec, added, negated, sum_v}
 use Rattle.lattice.specs.States.{holds, field_particles, field_momentum}
-use Rattle.book.specs.declared.account.Account.{Account}
+use Rattle.lattice.specs.declared.vector.Vector.{Vector as Account}
 use Rattle.book.specs.Accounts.{obstacles, fan_account, accounts, account_at, most_push}
 use Rattle.dynamics.specs.Tunnels.{Tunnel, cells}
 use Rattle.dynamics.specs.Step.{collided_at}

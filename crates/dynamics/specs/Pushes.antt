@@ -5,7 +5,7 @@ use Rattle.lattice.specs.declared.vector.Vector.{Vector}
 use Rattle.lattice.specs.Sums.{count_n}
 use Rattle.lattice.specs.Vectors.{sum_v, only_if, times}
 use Rattle.gas.specs.Model.{momentum, outcome}
-use Rattle.book.specs.declared.account.Account.{Account}
+use Rattle.lattice.specs.declared.vector.Vector.{Vector as Account}
 use Rattle.book.specs.Accounts.{accounts, fan_account, none, grown}
 use Rattle.dynamics.specs.Roles.{is_wall_of, is_fan}
 use Rattle.dynamics.specs.Cells.{east, can_turn}

@@ -3,7 +3,7 @@ use Rattle.std.specs.Prelude.{ℕ, ◌*◌, List, map}
 use Rattle.std.specs.List.{range_with_len}
 use Rattle.gas.specs.Model.{GasModel}
 use Rattle.twist.specs.Model.{TwistModel}
-use Rattle.book.specs.declared.account.Account.{Account}
+use Rattle.lattice.specs.declared.vector.Vector.{Vector as Account}
 
 pub record RunState : Type 0 where
   pub gas : GasModel

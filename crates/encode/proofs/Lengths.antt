@@ -2,7 +2,7 @@
 use Rattle.std.proofs.Common.{◌≡◌, ◌+◌, ◌*◌, ◌≤◌, List, [], ◌∷◌, length, refl, arith, length-append, pow_mono}
 use Rattle.gas.specs.Model.{GasModel, states}
 use Rattle.gas.specs.Laws.{GasLaws}
-use Rattle.book.specs.declared.account.Account.{Account}
+use Rattle.lattice.specs.declared.vector.Vector.{Vector as Account}
 use Rattle.book.specs.Accounts.{accounts}
 use Rattle.dynamics.specs.Tunnels.{Tunnel, cells}
 use Rattle.records.specs.Files.{Rec, rec, laid}

@@ -4,7 +4,7 @@ use Rattle.std.specs.Int.{w64}
 use Rattle.std.proofs.Common.{of_z}
 use Rattle.std.specs.List.{flat_map}
 use Rattle.gas.specs.Model.{GasModel, states}
-use Rattle.book.specs.declared.account.Account.{Account}
+use Rattle.lattice.specs.declared.vector.Vector.{Vector as Account}
 use Rattle.dynamics.specs.Tunnels.{RunState, Tunnel}
 use Rattle.records.specs.Format.{le}
 use Rattle.records.specs.Files.{Rec, rec, laid}

@@ -3,7 +3,7 @@ use Rattle.std.specs.Prelude.{ℕ, List, take}
 use Rattle.lattice.specs.declared.grid.Grid.{Grid}
 use Rattle.gas.specs.declared.Gas as Gas
 use Rattle.twist.specs.declared.TwistSource as Twist
-use Rattle.book.specs.declared.account.Account.{Account}
+use Rattle.lattice.specs.declared.vector.Vector.{Vector as Account}
 use Rattle.dynamics.specs.Tunnels.{RunState, Tunnel, cells}
 
 abbrev pub run_from : {G S : Type 0} → Gas.Ghosts G → Twist.Ghosts S → G → S → Grid → ℕ → ℕ → List Account → RunState

@@ -1,6 +1,6 @@
 // The head: sixteen bytes of kinds, sizes, period, step count and mark.
 ghost use Rattle.std.specs.Prelude.{◌≡◌, List};
-ghost use Rattle.book.specs.declared.account.Account.{Account};
+ghost use Rattle.lattice.specs.declared.vector.Vector.{Vector as Account};
 ghost use Rattle.encode.specs.Encodings.{head_bytes};
 ghost use Rattle.encode.specs.Handed.{run_from};
 

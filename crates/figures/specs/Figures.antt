@@ -6,7 +6,7 @@ use Rattle.gas.specs.Model.{GasModel, outcome}
 use Rattle.square.specs.Square.{square}
 use Rattle.hexagonal.specs.Hexagonal.{hexagonal}
 use Rattle.twist.specs.Kinds.{parity, register}
-use Rattle.book.specs.declared.account.Account.{Account}
+use Rattle.lattice.specs.declared.vector.Vector.{Vector as Account}
 use Rattle.book.specs.Accounts.{accounts, account_at, grown}
 use Rattle.dynamics.specs.declared.role.Role.{Role}
 use Rattle.dynamics.specs.declared.role.Role.TheVariants.{Wall, Fan}

@@ -3,7 +3,7 @@ use Rattle.std.proofs.Common.{◌≡◌, ℕ, ◌+◌, ◌*◌, ◌<◌, true, �
 use Rattle.std.proofs.lemmas.Bool.{le-leb}
 use Rattle.gas.specs.Model.{GasModel}
 use Rattle.twist.specs.Model.{TwistModel}
-use Rattle.book.specs.declared.account.Account.{Account}
+use Rattle.lattice.specs.declared.vector.Vector.{Vector as Account}
 use Rattle.book.specs.Accounts.{accounts, none, account_fits, book_fits, most_push}
 use Rattle.book.proofs.Ranges.{fits_all}
 use Rattle.dynamics.proofs.Lists.{length-listed, get_d_listed}

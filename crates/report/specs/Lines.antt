@@ -6,7 +6,7 @@ use Rattle.lattice.specs.declared.vector.Vector.{Vector}
 use Rattle.lattice.specs.Vectors.{vec}
 use Rattle.gas.specs.declared.totals.Totals.{Totals}
 use Rattle.gas.specs.Judging.{same_number}
-use Rattle.book.specs.declared.account.Account.{Account}
+use Rattle.lattice.specs.declared.vector.Vector.{Vector as Account}
 use Rattle.book.specs.Accounts.{fan_account}
 use Rattle.report.specs.declared.patch.Patch.{Patch}
 

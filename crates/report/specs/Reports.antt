@@ -2,7 +2,7 @@
 use Rattle.std.specs.Prelude.{ℕ, ◌+◌, ◌*◌, ◌/◌, List, ◌++◌, take}
 use Rattle.lattice.specs.declared.grid.Grid.{Grid}
 use Rattle.gas.specs.Model.{GasModel}
-use Rattle.book.specs.declared.account.Account.{Account}
+use Rattle.lattice.specs.declared.vector.Vector.{Vector as Account}
 use Rattle.book.specs.Accounts.{accounts, account_at}
 use Rattle.dynamics.specs.Tunnels.{RunState, cells}
 use Rattle.text.specs.Texts.{texts}

@@ -10,7 +10,7 @@ use Rattle.lattice.proofs.Sums.{sum_more, sum_nat_abs, cond_nat_abs}
 use Rattle.gas.specs.Model.{GasModel, momentum}
 use Rattle.gas.specs.Laws.{GasLaws}
 use Rattle.gas.proofs.Bounds.{momentum_small}
-use Rattle.book.specs.declared.account.Account.{Account}
+use Rattle.lattice.specs.declared.vector.Vector.{Vector as Account}
 use Rattle.book.specs.Accounts.{accounts, none, grown, pushed}
 use Rattle.dynamics.specs.declared.role.Role.{Role}
 use Rattle.dynamics.specs.declared.role.Role.TheVariants.{Open, Wall, Fan}

@@ -13,7 +13,7 @@ use Rattle.lattice.proofs.Sums.{sum_same, sum_none}
 use Rattle.lattice.proofs.Making.{state_of_same}
 use Rattle.gas.specs.Model.{GasModel, momentum}
 use Rattle.gas.specs.Streaming.{arriving}
-use Rattle.book.specs.declared.account.Account.{Account}
+use Rattle.lattice.specs.declared.vector.Vector.{Vector as Account}
 use Rattle.book.specs.Accounts.{accounts, fan_account, none, grown, pushed, account_fits, most_push}
 use Rattle.dynamics.specs.Roles.{role_of, is_wall_of}
 use Rattle.dynamics.specs.Tunnels.{Tunnel, cells}

@@ -3,7 +3,7 @@ use Rattle.std.specs.Prelude.{◌≡◌, ℕ, ◌+◌, ◌^◌, ◌<◌, ◌≤�
 use Rattle.lattice.specs.declared.vector.Vector.{Vector}
 use Rattle.lattice.specs.Vectors.{sum_v, only_if, times}
 use Rattle.gas.specs.Model.{GasModel, momentum}
-use Rattle.book.specs.declared.account.Account.{Account}
+use Rattle.lattice.specs.declared.vector.Vector.{Vector as Account}
 use Rattle.book.specs.Accounts.{accounts, none, grown}
 use Rattle.dynamics.specs.Roles.{role_of, is_wall_of}
 

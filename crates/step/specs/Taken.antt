@@ -1,7 +1,7 @@
 -- What k steps leave: the field, the spare, the book and the source's mark are those of the tunnel k steps on.
 use Rattle.std.specs.Prelude.{◌≡◌, ℕ, zero, suc, List}
 use Rattle.twist.specs.Model.{TwistModel}
-use Rattle.book.specs.declared.account.Account.{Account}
+use Rattle.lattice.specs.declared.vector.Vector.{Vector as Account}
 use Rattle.dynamics.specs.Tunnels.{Tunnel}
 use Rattle.dynamics.specs.Step.{collided}
 use Rattle.dynamics.specs.Pushes.{after_steps}

@@ -3,7 +3,7 @@ use Rattle.std.proofs.lemmas.Int.{ints}
 use Rattle.lattice.specs.declared.vector.Vector.{Vector}
 use Rattle.lattice.specs.Vectors.{times}
 use Rattle.gas.proofs.Bounds.{momentum_small}
-use Rattle.book.specs.declared.account.Account.{Account}
+use Rattle.lattice.specs.declared.vector.Vector.{Vector as Account}
 use Rattle.book.specs.declared.table.Book.{Book}
 use Rattle.book.specs.Accounts.{none}
 use Rattle.dynamics.specs.Roles.{is_wall_of}
