@@ -1,5 +1,7 @@
 -- Texts put on a sheet one behind the other.
-use Rattle.std.proofs.Common.{◌≡◌, ℕ, ◌+◌, ◌-◌, ◌^◌, ◌<◌, ◌≤◌, min, List, [], ◌++◌, length, refl, sym, ap, ◌∙◌, add-one}
+use Rattle.std.proofs.Common.{◌≡◌, ℕ, ◌+◌, ◌-◌, ◌^◌, ◌<◌, ◌≤◌, min, List, [], ◌++◌, length, refl, sym, ap, ◌∙◌, add-one, ℤ, w64, SFits, to_z, of_z}
+use Rattle.std.specs.Fmt.{signed_decimal}
+use Rattle.std.proofs.lemmas.Int.{to_z-of_z}
 use Rattle.text.specs.declared.sheet.Sheet.{Sheet}
 use Rattle.text.specs.Buffers.{over}
 use Rattle.text.specs.Sheets.{Adds}
@@ -7,8 +9,8 @@ use Rattle.text.specs.Texts.{texts}
 use Rattle.text.proofs.Places as places
 
 -- nothing
-pub adds_none : (a : Sheet) → a.at < 2 ^ 64 → Adds [] a a
-adds_none a l = record { puts = places.puts_none a.out.now a.at l; same_buffer = refl }
+pub adds_none : (a : Sheet) → Adds [] a a
+adds_none a = record { puts = places.puts_none a.out.now a.at a.counted; same_buffer = refl }
 
 -- a second text behind a first
 pub adds_then : {s t : List ℕ} {a b c : Sheet} → Adds s a b → Adds t b c → Adds (s ++ t) a c
@@ -18,10 +20,14 @@ adds_then {a = a} first second = record { puts = places.puts_then a.short first.
 pub adds_same : {s t : List ℕ} {a b : Sheet} → s ≡ t → Adds s a b → Adds t a b
 adds_same is first = record { puts = places.puts_same is first.puts; same_buffer = first.same_buffer }
 
+-- a signed number, as the machine holds it
+pub adds_signed : {x : ℤ} {a b : Sheet} → SFits w64 x → Adds (signed_decimal (to_z w64 (of_z w64 x))) a b → Adds (signed_decimal x) a b
+adds_signed {x = x} fits = adds_same (ap signed_decimal (to_z-of_z w64 x fits))
+
 -- no text yet, and one text more
-pub adds_start : (f : ℕ → List ℕ) (a : Sheet) → a.at < 2 ^ 64 → Adds (texts 0 f) a a
+pub adds_start : (f : ℕ → List ℕ) (a : Sheet) → Adds (texts 0 f) a a
 unfolding texts
-adds_start f a l = adds_none a l
+adds_start f a = adds_none a
 
 pub adds_more : (n : ℕ) (f : ℕ → List ℕ) {a b c : Sheet} → Adds (texts n f) a b → Adds (f n) b c → Adds (texts (n + 1) f) a c
 unfolding texts

@@ -4,10 +4,12 @@ ghost use Rattle.std.specs.Prelude.{◌≡◌, ◌^◌, ◌<◌, length};
 use itoa::Integer;
 
 /// A lent buffer, and the place reached in it.
+#[derive(Drop)]
 pub struct Sheet<'a> {
     out: &'a mut [u8],
     at: usize,
     ghost short: { length out.now < 2 ^ 64 },
+    ghost counted: { at < 2 ^ 64 },
 }
 
 impl<'a> Sheet<'a> {
