@@ -28,7 +28,7 @@ pub(crate) fn paint_bar<G: Gas, S: TwistSource>(
 pub(crate) fn fill(field: &mut [u8])
     ensures { (i : ℕ) → i < length field.old → slice_index field.new i ≡ gas_at i }
 {
-    for cell in 0..field.len() {
-        field[cell] = (cell % 128) as u8;
+    for (cell, state) in field.iter_mut().enumerate() {
+        *state = (cell % 128) as u8;
     }
 }

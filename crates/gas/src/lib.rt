@@ -13,7 +13,7 @@ ghost use Rattle.gas.specs.Judging.{table_judged, entries_after, sound_entry, so
 ghost use Rattle.gas.specs.Streaming.{arriving as arriving_at, RowStreamed};
 
 pub use fault::TableFault;
-use lattice::{Grid, Vector, byte_at, held, states_of, with_particle};
+use lattice::{Grid, Vector, byte_at, held, state_where, states_of};
 pub use laws::taken_if_sound;
 pub use totals::{Totals, field_totals};
 
@@ -124,14 +124,15 @@ pub trait Gas {
     fn arriving(&self, grid: Grid, from: &[u8], cell: usize) -> u8
         ensures { result ≡ arriving_at (model self.now) grid.width grid.height from.now cell }
     {
-        let mut state = 0;
-        for channel in 0..self.channels() {
-            let source = self.neighbour(grid, self.opposite(channel), cell);
-            if held(byte_at(from, source), channel) {
-                state = with_particle(state, channel);
-            }
-        }
-        state
+        state_where(
+            self.channels(),
+            |channel|
+                requires { channel < 8 }
+            {
+                let source = self.neighbour(grid, self.opposite(channel), cell);
+                held(byte_at(from, source), channel)
+            },
+        )
     }
 
     /// Streams one row of the field `from` into `to`.

@@ -16,4 +16,4 @@ pub use vector::Vector;
 
 mod states;
 
-pub use states::{byte_at, held, states_of, with_particle};
+pub use states::{byte_at, held, state_where, states_of, with_particle};

@@ -1,6 +1,6 @@
 // A cell's state, one channel at a time.
-ghost use Rattle.std.specs.Prelude.{◌≡◌, ℕ, ◌+◌, ◌^◌, ◌<◌, slice_index};
-ghost use Rattle.lattice.specs.States.{holds};
+ghost use Rattle.std.specs.Prelude.{◌≡◌, ℕ, ◌+◌, ◌^◌, ◌<◌, Bool, slice_index};
+ghost use Rattle.lattice.specs.States.{holds, state_of};
 
 /// Whether this channel of the state holds a particle.
 pub fn held(state: u8, channel: u8) -> bool
@@ -18,6 +18,21 @@ pub fn with_particle(state: u8, channel: u8) -> u8
     state | (1 << channel)
 }
 
+/// The state of so many channels that holds a particle just in those that `holds` picks.
+pub fn state_where<F: Fn(u8) -> bool>(channels: u8, holds: F) -> u8
+    requires few { channels < 8 }
+    requires callable { (c : ℕ) → c < channels → F.pre holds c }
+    ensures { (p : ℕ → Bool) → ((c : ℕ) (b : Bool) → c < channels → F.post holds c b → b ≡ p c) → result ≡ state_of channels p }
+{
+    let mut state = 0;
+    for channel in 0..channels {
+        if holds(channel) {
+            state = with_particle(state, channel);
+        }
+    }
+    state
+}
+
 /// How many states this many channels have.
 pub fn states_of(channels: u8) -> usize
     requires { channels < 8 }
@@ -30,5 +45,5 @@ pub fn states_of(channels: u8) -> usize
 pub fn byte_at(bytes: &[u8], place: usize) -> u8
     ensures { result ≡ slice_index bytes.now place }
 {
-    if place < bytes.len() { bytes[place] } else { 0 }
+    bytes.get(place).copied().unwrap_or(0)
 }

@@ -1,2 +1,0 @@
-pub mod Clears
-pub mod Copies

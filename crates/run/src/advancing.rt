@@ -5,7 +5,7 @@ ghost use Rattle.calls.specs.Grounds.{advance_fault};
 ghost use Rattle.calls.specs.Outcomes.{reply};
 ghost use Rattle.calls.specs.Calls.{Advanced};
 
-use super::judging::{judge_field, judge_map};
+use super::judging::{judge_field, judge_length, judge_map};
 use super::run::Run;
 use faults::CallFault;
 use gas::Gas;
@@ -23,15 +23,9 @@ impl<G: Gas, S: TwistSource> Run<G, S> {
         ensures { result ≡ reply (advance_fault (view G.Gas S.TwistSource self.now) k map.now field.now spare.now) tt }
     {
         let cells = self.grid.cells();
-        if map.len() < cells {
-            return Err(CallFault::ShortMap);
-        }
-        if field.len() < cells {
-            return Err(CallFault::ShortField);
-        }
-        if spare.len() < cells {
-            return Err(CallFault::ShortSpare);
-        }
+        judge_length(map, cells, CallFault::ShortMap)?;
+        judge_length(field, cells, CallFault::ShortField)?;
+        judge_length(spare, cells, CallFault::ShortSpare)?;
         judge_map(map, cells)?;
         judge_field(field, cells, states_of(self.gas.channels()))?;
         if k == 0 || k > MOST_STEPS {

@@ -5,23 +5,13 @@ ghost use Rattle.run.specs.View.{view};
 ghost use Rattle.calls.specs.Calls.{blank_run, Blanked, Painted};
 ghost use Rattle.calls.specs.Law.{LogLaw};
 
-use super::judging::{grid_fault, judge_map};
+use super::judging::{grid_fault, judge_length, judge_map};
 use super::run::Run;
 use book::Book;
 use faults::CallFault;
 use gas::Gas;
 use lattice::Grid;
 use twist::TwistSource;
-
-/// Makes the first `cells` bytes 0.
-fn clear(bytes: &mut [u8], cells: usize)
-    requires { cells ≤ length bytes.old }
-    ensures { bytes.new ≡ over (replicate cells 0) bytes.old }
-{
-    for place in 0..cells {
-        bytes[place] = 0;
-    }
-}
 
 impl<G: Gas, S: TwistSource> Run<G, S> {
     /// Makes map and field all 0, with house rules, the first twist mark, period 0, step 0 and a book of zeros.
@@ -35,19 +25,12 @@ impl<G: Gas, S: TwistSource> Run<G, S> {
         ensures outcome { Blanked (view G.Gas S.TwistSource self.old) width height map.old field.old result (view G.Gas S.TwistSource self.new) map.new field.new }
         ensures law { result ≡ Ok tt → LogLaw (record { run = view G.Gas S.TwistSource self.new; map = map.new; field = field.new }) }
     {
-        let grid = match Grid::new(width, height) {
-            Ok(grid) => grid,
-            Err(fault) => return Err(CallFault::Job(grid_fault(fault))),
-        };
+        let grid = Grid::new(width, height).map_err(grid_fault)?;
         let cells = grid.cells();
-        if map.len() < cells {
-            return Err(CallFault::ShortMap);
-        }
-        if field.len() < cells {
-            return Err(CallFault::ShortField);
-        }
-        clear(map, cells);
-        clear(field, cells);
+        judge_length(map, cells, CallFault::ShortMap)?;
+        judge_length(field, cells, CallFault::ShortField)?;
+        map[..cells].fill(0);
+        field[..cells].fill(0);
         self.restart(grid);
         Ok(())
     }
@@ -70,9 +53,7 @@ impl<G: Gas, S: TwistSource> Run<G, S> {
         ensures { Painted (view G.Gas S.TwistSource self.now) column row kind map.old result (view G.Gas S.TwistSource self.now) map.new }
     {
         let cells = self.grid.cells();
-        if map.len() < cells {
-            return Err(CallFault::ShortMap);
-        }
+        judge_length(map, cells, CallFault::ShortMap)?;
         judge_map(map, cells)?;
         let width = self.grid.width();
         if column >= width {

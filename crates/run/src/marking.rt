@@ -7,7 +7,7 @@ ghost use Rattle.calls.specs.Outcomes.{reply};
 ghost use Rattle.calls.specs.Calls.{Marked};
 ghost use Rattle.run.specs.View.{view};
 
-use super::judging::{judge_field, judge_map};
+use super::judging::{judge_field, judge_length, judge_map};
 use super::run::Run;
 use encode::write_file;
 use faults::CallFault;
@@ -28,12 +28,8 @@ impl<G: Gas, S: TwistSource> Run<G, S> {
         ensures { result ≡ reply (mark_fault (view G.Gas S.TwistSource self.now) map.now field.now out.now) tt }
     {
         let cells = self.grid.cells();
-        if map.len() < cells {
-            return Err(CallFault::ShortMap);
-        }
-        if field.len() < cells {
-            return Err(CallFault::ShortField);
-        }
+        judge_length(map, cells, CallFault::ShortMap)?;
+        judge_length(field, cells, CallFault::ShortField)?;
         judge_map(map, cells)?;
         judge_field(field, cells, states_of(self.gas.channels()))?;
         if out.len() < self.file_length() {

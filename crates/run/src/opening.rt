@@ -10,6 +10,7 @@ ghost use Rattle.calls.specs.Calls.{Opened};
 ghost use Rattle.calls.specs.Files.{Opens};
 ghost use Rattle.calls.specs.Law.{LogLaw, MarksBack};
 
+use super::judging::judge_length;
 use super::run::Run;
 use faults::CallFault;
 use gas::Gas;
@@ -21,9 +22,7 @@ fn copy_over(buffer: &mut [u8], bytes: &[u8])
     requires { length bytes.now ≤ length buffer.old }
     ensures { buffer.new ≡ over bytes.now buffer.old }
 {
-    for place in 0..bytes.len() {
-        buffer[place] = bytes[place];
-    }
+    buffer[..bytes.len()].copy_from_slice(bytes);
 }
 
 impl<G: Gas, S: TwistSource> Run<G, S> {
@@ -33,12 +32,8 @@ impl<G: Gas, S: TwistSource> Run<G, S> {
     {
         let job = judge_job(&self.gas, &self.source, file)?;
         let cells = job.grid.cells();
-        if map.len() < cells {
-            return Err(CallFault::ShortMap);
-        }
-        if field.len() < cells {
-            return Err(CallFault::ShortField);
-        }
+        judge_length(map, cells, CallFault::ShortMap)?;
+        judge_length(field, cells, CallFault::ShortField)?;
         Ok(job)
     }
 

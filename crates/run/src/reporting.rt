@@ -5,7 +5,7 @@ ghost use Rattle.calls.specs.Grounds.{patch_fault};
 ghost use Rattle.calls.specs.Outcomes.{reply};
 ghost use Rattle.calls.specs.Calls.{Reported};
 
-use super::judging::judge_field;
+use super::judging::{judge_field, judge_length};
 use super::run::Run;
 use faults::CallFault;
 use gas::Gas;
@@ -21,9 +21,7 @@ impl<G: Gas, S: TwistSource> Run<G, S> {
         ensures { result ≡ reply (patch_fault (view G.Gas S.TwistSource self.now) b field.now) tt }
     {
         let cells = self.grid.cells();
-        if field.len() < cells {
-            return Err(CallFault::ShortField);
-        }
+        judge_length(field, cells, CallFault::ShortField)?;
         judge_field(field, cells, states_of(self.gas.channels()))?;
         if b == 0 || b > WIDEST_PATCH {
             return Err(CallFault::Argument(1));
@@ -39,9 +37,8 @@ impl<G: Gas, S: TwistSource> Run<G, S> {
         ensures { Reported (view G.Gas S.TwistSource self.now) b field.now out.old result (view G.Gas S.TwistSource self.now) out.new }
     {
         self.judge_patches(b, field)?;
-        match write_report(&self.gas, self.grid, self.steps, &self.book, field, b, out) {
-            Some(length) => Ok(length),
-            None => Err(CallFault::ShortOutput),
-        }
+        write_report(&self.gas, self.grid, self.steps, &self.book, field, b, out).ok_or(
+            CallFault::ShortOutput,
+        )
     }
 }

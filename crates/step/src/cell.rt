@@ -1,12 +1,11 @@
 // The collision in one cell.
 ghost use Rattle.std.specs.Prelude.{◌≡◌, ℕ, ◌<◌, not, ◌&&◌, ◌||◌, ◌==◌};
-ghost use Rattle.lattice.specs.States.{holds};
 ghost use Rattle.dynamics.specs.Cells.{bounced, can_turn, turned as turned_state};
 ghost use Rattle.step.specs.Rows.{cell_after};
 
 use dynamics::Role;
 use gas::Gas;
-use lattice::{held, with_particle};
+use lattice::{held, state_where};
 
 /// A cell's state after the collision, and whether the fan turned a particle in it.
 #[derive(Clone, Copy)]
@@ -19,13 +18,11 @@ pub struct Collided {
 fn bounce<G: Gas>(gas: &G, state: u8) -> u8
     ensures { result ≡ bounced (G.model gas.now) state }
 {
-    let mut made = 0;
-    for channel in 0..gas.channels() {
-        if held(state, gas.opposite(channel)) {
-            made = with_particle(made, channel);
-        }
-    }
-    made
+    state_where(gas.channels(), |channel|
+        requires { channel < (G.model gas.now).channels }
+    {
+        held(state, gas.opposite(channel))
+    })
 }
 
 /// Whether a particle comes against the fan, and east is empty.
@@ -35,26 +32,16 @@ fn can_turn<G: Gas>(gas: &G, state: u8) -> bool
     held(state, gas.opposite(0)) && !held(state, 0)
 }
 
-/// Whether this channel holds a particle once the one in `against` is in east.
-fn held_turned(state: u8, against: u8, channel: u8) -> bool
-    requires { channel < 8 }
-    ensures { result ≡ (channel == 0 || (not (channel == against) && holds state channel)) }
-{
-    channel == 0 || channel != against && held(state, channel)
-}
-
 /// The state with that particle in east.
 fn turn<G: Gas>(gas: &G, state: u8) -> u8
     ensures { result ≡ turned_state (G.model gas.now) state }
 {
     let against = gas.opposite(0);
-    let mut made = 0;
-    for channel in 0..gas.channels() {
-        if held_turned(state, against, channel) {
-            made = with_particle(made, channel);
-        }
-    }
-    made
+    state_where(gas.channels(), |channel|
+        requires { channel < 8 }
+    {
+        channel == 0 || channel != against && held(state, channel)
+    })
 }
 
 /// What the collision makes of a cell with this role and state.

@@ -1,21 +1,14 @@
-use Rattle.std.proofs.Common.{ltb, get_or, sym, ap, arith, below_more}
-use Rattle.std.proofs.lemmas.Bool.{lt-ltb, le-ltb}
-use Rattle.lattice.proofs.Firsts.{first-none, first_some}
+use Rattle.std.proofs.Common.{Some, None, leb, sym, ap, ◌∙◌}
+use Rattle.lattice.proofs.Firsts.{position_take}
 use Rattle.faults.specs.declared.call.CallFault.TheVariants.{MapByte}
-use Rattle.dynamics.specs.Roles.{highest_map_byte}
 use Rattle.calls.specs.Grounds.{fault_at}
 use Rattle.calls.specs.Outcomes.{reply}
 use Rattle.run.proofs.judging.judge_map.Goals as goal
 
-pub returns-then-map-place-gt16 : goal.returns-then-map-place-gt16
-returns-then-map-place-gt16 c =
-    ap (λ o. reply (fault_at MapByte o) tt)
-    (sym (first_some c.args.cells (λ i. ltb highest_map_byte (get_or c.args.map.now i 0)) c.loop-place.place c.loop-place-test.true (lt-ltb _ _ c.if-map-place-gt16.true) c.loop-place.invariant))
+pub returns-in-Some : goal.returns-in-Some
+returns-in-Some c =
+    ap (λ o. reply (fault_at MapByte o) tt) (sym c.in-Some.is ∙ c.first_from.ensures ∙ position_take (λ b. leb 17 b) c.args.cells c.args.map.now c.requires)
 
-pub loop-place-preserved : goal.loop-place-preserved
-loop-place-preserved c = below_more _ _ c.loop-place.invariant (le-ltb _ _ c.if-map-place-gt16.false)
-
-pub returns : goal.returns
-returns c =
-    ap (λ o. reply (fault_at MapByte o) tt)
-    (sym (first-none c.args.cells (λ i. ltb highest_map_byte (get_or c.args.map.now i 0)) (λ k l. c.loop-place.invariant k (omega arith))))
+pub returns-in-None : goal.returns-in-None
+returns-in-None c =
+    ap (λ o. reply (fault_at MapByte o) tt) (sym c.in-None.is ∙ c.first_from.ensures ∙ position_take (λ b. leb 17 b) c.args.cells c.args.map.now c.requires)
