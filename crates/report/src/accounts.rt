@@ -23,11 +23,7 @@ fn put_name(n: usize, sheet: &mut Sheet)
 fn put_account(n: usize, account: Account, sheet: &mut Sheet)
     ensures { Adds (account_line n account) sheet.old sheet.new }
 {
-    let nothing = Account {
-        along: 0,
-        across: 0,
-    };
-    if account == nothing {
+    if account == Account::default() {
         return;
     }
     put_name(n, sheet);

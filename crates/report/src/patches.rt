@@ -35,19 +35,16 @@ impl<'a, G: Gas> Shown<'a, G> {
         ensures particles { let s = told G.Gas self.now in result.particles ≡ sum_n rows (λ (j : ℕ). sum_n columns (λ (k : ℕ). particles_at s.gas s.field (cell_at s.width (column + k) (row + j)))) }
         ensures momentum { let s = told G.Gas self.now in result.momentum ≡ sum_v rows (λ (j : ℕ). sum_v columns (λ (k : ℕ). momentum_at s.gas s.field (cell_at s.width (column + k) (row + j)))) }
     {
-        let mut particles = 0;
-        let mut along = 0;
-        let mut across = 0;
+        let mut totals = Totals {
+            particles: 0,
+            momentum: Vector::default(),
+        };
         for line in 0..rows {
             let stretch = self.stretch_totals(column, row + line, columns);
-            particles += stretch.particles;
-            along += stretch.momentum.along;
-            across += stretch.momentum.across;
+            totals.particles += stretch.particles;
+            totals.momentum += stretch.momentum;
         }
-        Totals {
-            particles,
-            momentum: Vector { along, across },
-        }
+        totals
     }
 
     /// The patch in this column and row of patches.

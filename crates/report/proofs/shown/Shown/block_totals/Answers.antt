@@ -1,86 +1,59 @@
 use Rattle.std.proofs.Common.{◌≡◌, ℕ, ◌+◌, ◌≤◌, ap, ◌∙◌, arith}
-use Rattle.lattice.specs.declared.vector.Vector.{Vector}
-use Rattle.lattice.specs.Sums.{sum_n, sum_z}
 use Rattle.lattice.specs.Grids.{cell_at}
-use Rattle.lattice.proofs.Sums.{sum_start, sum_n_start, sum_more, sum_n_more}
+use Rattle.lattice.specs.Sums.{sum_n}
+use Rattle.lattice.specs.Vectors.{sum_v}
+use Rattle.lattice.proofs.Sums.{sum_start, sum_n_start, sum_n_more}
 use Rattle.lattice.proofs.Vectors.{same_vector}
 use Rattle.report.specs.Patches.{particles_at, momentum_at}
-use Rattle.report.proofs.Stretches.{stretch_few, stretch_along, stretch_across, particles_few, along_small, across_small, sum_fits, sum_is}
 use Rattle.report.specs.Reports.{told}
+use Rattle.report.proofs.Stretches.{stretch_few, particles_few, momentum_fits, momentum_more}
 use Rattle.report.proofs.shown.Shown.block_totals.Goals as goal
 
 pub loop-line-init : goal.loop-line-init
-loop-line-init g c = (sum_n_start _, sum_start _, sum_start _)
+loop-line-init g c = record {
+  particles = sum_n_start _;
+  momentum = same_vector _ _ (c.default.ensures.0 ∙ sum_start _) (c.default.ensures.1 ∙ sum_start _);
+}
 
-pub overflow_add-particles : goal.overflow_add-particles
-overflow_add-particles g c =
-    let m = (told g.G.Gas c.args.self.now).gas in
+pub overflow_add-totals : goal.overflow_add-totals
+overflow_add-totals g c =
+    let s = told g.G.Gas c.args.self.now in
     let laws = g.met.G.Gas.lawful c.args.self.now.gas.now in
-    let xs = (told g.G.Gas c.args.self.now).field in
     let b = c.args.columns in
     let j = c.loop-line.line in
-    let cell : ℕ → ℕ → ℕ = λ k j. cell_at c.args.self.now.grid.width (c.args.column + k) (c.args.row + j) in
+    let cell : ℕ → ℕ → ℕ = λ k j. cell_at s.width (c.args.column + k) (c.args.row + j) in
     let few : b ≤ 256 = omega (arith, c.requires.columns) in
-    let so_far = particles_few m laws xs j b cell few in
-    let one = stretch_few m laws xs b (λ k. cell k j) few in
-    omega (arith, c.loop-line.invariant.0, c.stretch_totals-stretch.ensures.particles, c.requires.rows, c.loop-line-test.true)
+    omega (
+      arith,
+      particles_few s.gas laws s.field j b cell few,
+      stretch_few s.gas laws s.field b (λ k. cell k j) few,
+      c.loop-line.invariant.particles,
+      c.stretch_totals-stretch.ensures.particles,
+      c.requires.rows,
+      c.loop-line-test.true,
+    )
 
-pub overflow_add-along : goal.overflow_add-along
-overflow_add-along g c =
-    let m = (told g.G.Gas c.args.self.now).gas in
-    let laws = g.met.G.Gas.lawful c.args.self.now.gas.now in
-    let xs = (told g.G.Gas c.args.self.now).field in
-    let b = c.args.columns in
-    let j = c.loop-line.line in
-    let cell : ℕ → ℕ → ℕ = λ k j. cell_at c.args.self.now.grid.width (c.args.column + k) (c.args.row + j) in
-    let few : b ≤ 256 = omega (arith, c.requires.columns) in
-    let line : j ≤ 256 = omega (arith, c.requires.rows, c.loop-line-test.true) in
-    sum_fits c.loop-line.invariant.1 (ap (λ (v : Vector). v.along) c.stretch_totals-stretch.ensures.momentum)
-    (omega (arith, along_small m laws xs j b cell few)) (omega (arith, stretch_along m laws xs b (λ k. cell k j) few))
-
-pub overflow_add-across : goal.overflow_add-across
-overflow_add-across g c =
-    let m = (told g.G.Gas c.args.self.now).gas in
-    let laws = g.met.G.Gas.lawful c.args.self.now.gas.now in
-    let xs = (told g.G.Gas c.args.self.now).field in
-    let b = c.args.columns in
-    let j = c.loop-line.line in
-    let cell : ℕ → ℕ → ℕ = λ k j. cell_at c.args.self.now.grid.width (c.args.column + k) (c.args.row + j) in
-    let few : b ≤ 256 = omega (arith, c.requires.columns) in
-    let line : j ≤ 256 = omega (arith, c.requires.rows, c.loop-line-test.true) in
-    sum_fits c.loop-line.invariant.2 (ap (λ (v : Vector). v.across) c.stretch_totals-stretch.ensures.momentum)
-    (omega (arith, across_small m laws xs j b cell few)) (omega (arith, stretch_across m laws xs b (λ k. cell k j) few))
+pub add_assign-requires : goal.add_assign-requires
+add_assign-requires g c =
+    let s = told g.G.Gas c.args.self.now in
+    let cell : ℕ → ℕ → ℕ = λ k j. cell_at s.width (c.args.column + k) (c.args.row + j) in
+    momentum_fits s.gas (g.met.G.Gas.lawful c.args.self.now.gas.now) s.field c.loop-line.line c.args.columns cell
+    (omega (arith, c.requires.rows, c.loop-line-test.true)) (omega (arith, c.requires.columns))
+    c.loop-line.invariant.momentum c.stretch_totals-stretch.ensures.momentum
 
 pub loop-line-preserved : goal.loop-line-preserved
 loop-line-preserved g c =
-    let m = (told g.G.Gas c.args.self.now).gas in
-    let laws = g.met.G.Gas.lawful c.args.self.now.gas.now in
-    let xs = (told g.G.Gas c.args.self.now).field in
+    let s = told g.G.Gas c.args.self.now in
     let b = c.args.columns in
     let j = c.loop-line.line in
-    let cell : ℕ → ℕ → ℕ = λ k j. cell_at c.args.self.now.grid.width (c.args.column + k) (c.args.row + j) in
-    let few : b ≤ 256 = omega (arith, c.requires.columns) in
-    let line : j ≤ 256 = omega (arith, c.requires.rows, c.loop-line-test.true) in
-    let told = c.stretch_totals-stretch.ensures.momentum in (
-      omega (arith, c.loop-line.invariant.0, c.stretch_totals-stretch.ensures.particles, sum_n_more j (λ i. sum_n b (λ k. particles_at m xs (cell k i)))),
-      sum_is c.loop-line.invariant.1 (ap (λ (v : Vector). v.along) told)
-          (omega (arith, along_small m laws xs j b cell few)) (omega (arith, stretch_along m laws xs b (λ k. cell k j) few))
-          (sum_more j (λ i. sum_z b (λ k. (momentum_at m xs (cell k i)).along))),
-      sum_is c.loop-line.invariant.2 (ap (λ (v : Vector). v.across) told)
-          (omega (arith, across_small m laws xs j b cell few)) (omega (arith, stretch_across m laws xs b (λ k. cell k j) few))
-          (sum_more j (λ i. sum_z b (λ k. (momentum_at m xs (cell k i)).across))),
-    )
-
-pub returns : goal.returns
-returns g c =
-    let m = (told g.G.Gas c.args.self.now).gas in
-    let xs = (told g.G.Gas c.args.self.now).field in
-    let b = c.args.columns in
-    let cell : ℕ → ℕ → ℕ = λ k j. cell_at c.args.self.now.grid.width (c.args.column + k) (c.args.row + j) in
-    let end : c.loop-line.line ≡ c.args.rows = omega (arith, c.loop-line-test.false, c.loop-line.auto.line-end) in
-    record {
-      particles = c.loop-line.invariant.0 ∙ ap (λ (n : ℕ). sum_n n (λ i. sum_n b (λ k. particles_at m xs (cell k i)))) end;
-      momentum = same_vector _ _
-          (c.loop-line.invariant.1 ∙ ap (λ (n : ℕ). sum_z n (λ i. sum_z b (λ k. (momentum_at m xs (cell k i)).along))) end)
-          (c.loop-line.invariant.2 ∙ ap (λ (n : ℕ). sum_z n (λ i. sum_z b (λ k. (momentum_at m xs (cell k i)).across))) end);
+    let cell : ℕ → ℕ → ℕ = λ k j. cell_at s.width (c.args.column + k) (c.args.row + j) in record {
+      particles = omega (arith, c.loop-line.invariant.particles, c.stretch_totals-stretch.ensures.particles, sum_n_more j (λ i. sum_n b (λ k. particles_at s.gas s.field (cell k i))));
+      momentum = c.add_assign.ensures.after ∙ momentum_more j (λ i. sum_v b (λ k. momentum_at s.gas s.field (cell k i))) c.loop-line.invariant.momentum c.stretch_totals-stretch.ensures.momentum;
     }
+
+pub returns-clause-momentum : goal.returns-clause-momentum
+returns-clause-momentum g c =
+    let s = told g.G.Gas c.args.self.now in
+    let cell : ℕ → ℕ → ℕ = λ k j. cell_at s.width (c.args.column + k) (c.args.row + j) in
+    let end : c.loop-line.line ≡ c.args.rows = omega (arith, c.loop-line-test.false, c.loop-line.auto.line-end) in
+    c.loop-line.invariant.momentum ∙ ap (λ (n : ℕ). sum_v n (λ i. sum_v c.args.columns (λ k. momentum_at s.gas s.field (cell k i)))) end

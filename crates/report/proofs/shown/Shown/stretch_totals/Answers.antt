@@ -19,9 +19,11 @@ returns g c =
     let within : start + n ≤ length s.field = omega (arith, row_fits_lem c.args.row w s.height c.requires.row, c.requires.columns) in
     let cell : ℕ → ℕ = λ k. cell_at w (c.args.column + k) c.args.row in
     let at : (k : ℕ) → start + k ≡ cell k = λ k. omega arith in
+    let particles_are = rw c.cells.ensures at c.field_totals.ensures.particles in
+    let momentum_is = rw c.cells.ensures at c.field_totals.ensures.momentum in
     record {
-      particles = (rw c.cells.ensures at c.field_totals.ensures.particles) ∙ stretch_sum_n (particles s.gas) s.field start (start + n - start) n cell (omega arith) within at;
-      momentum = (rw c.cells.ensures at c.field_totals.ensures.momentum) ∙ ap₂ vec
+      particles = particles_are ∙ stretch_sum_n (particles s.gas) s.field start (start + n - start) n cell (omega arith) within at;
+      momentum = momentum_is ∙ ap₂ vec
           (stretch_sum_z (λ q. (momentum s.gas q).along) s.field start (start + n - start) n cell (omega arith) within at)
           (stretch_sum_z (λ q. (momentum s.gas q).across) s.field start (start + n - start) n cell (omega arith) within at);
     }
