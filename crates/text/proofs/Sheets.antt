@@ -1,6 +1,7 @@
 -- Texts put on a sheet one behind the other.
-use Rattle.std.proofs.Common.{◌≡◌, ℕ, ◌+◌, ◌-◌, ◌^◌, ◌<◌, ◌≤◌, min, List, [], ◌++◌, length, refl, sym, ap, ◌∙◌, add-one, ℤ, w64, SFits, to_z, of_z}
+use Rattle.std.proofs.Common.{◌≡◌, ℕ, ◌+◌, ◌-◌, ◌^◌, ◌<◌, ◌≤◌, min, List, [], ◌++◌, length, refl, sym, ap, ◌∙◌, add-one, append-nil, arith, ℤ, w64, SFits, to_z, of_z}
 use Rattle.std.specs.Fmt.{signed_decimal}
+use Rattle.std.proofs.lemmas.List.{drop_all}
 use Rattle.std.proofs.lemmas.Int.{to_z-of_z}
 use Rattle.text.specs.declared.sheet.Sheet.{Sheet}
 use Rattle.text.specs.Buffers.{over}
@@ -39,3 +40,8 @@ measured {text = text} {a = a} {b = b} new text_put = places.measured (rw new at
 
 pub filled : {text : List ℕ} {a b : Sheet} → a.at ≡ 0 → length text ≤ length a.out.now → Adds text a b → (b.at ≡ length text) × (b.out.now ≡ over text a.out.now)
 filled {text = text} {a = a} {b = b} new l text_put = places.filled a.short l (rw new at text_put.puts)
+
+-- the buffer after a text as long as it
+pub covered : {text : List ℕ} {a b : Sheet} → a.at ≡ 0 → length text ≡ length a.out.now → Adds text a b → b.out.now ≡ text
+covered {text = text} {a = a} new full text_put =
+    (filled new (omega (arith, full)) text_put).1 ∙ ap (λ (l : List ℕ). text ++ l) (drop_all (length text) a.out.now (omega (arith, full))) ∙ append-nil text
