@@ -4,8 +4,9 @@
 mod accounts;
 mod file;
 mod head;
+mod held;
 mod numbers;
 mod record;
 mod rules;
 
-pub use file::write_file;
+pub use held::Held;

@@ -1,5 +1,5 @@
 // The rules: the entries of a gas, one byte each.
-ghost use Rattle.std.specs.Prelude.{◌≡◌, ◌*◌, ◌<◌, take, slice_index};
+ghost use Rattle.std.specs.Prelude.{◌≡◌, ◌*◌, ◌<◌, slice_index};
 ghost use Rattle.gas.specs.Model.{states as states_of};
 
 use gas::Gas;
@@ -16,14 +16,15 @@ fn entry_at<G: Gas>(gas: &G, states: usize, place: usize) -> u8
     gas.collide(true, (place - states) as u8)
 }
 
-/// The entries, which are the first 2 × 2^Q of these bytes.
-pub(crate) fn rules_bytes<G: Gas>(gas: &G) -> [u8; 256]
-    ensures { take (2 * states_of (G.model gas.now)) result ≡ G.entries gas.now }
+// The check of a record stands before its payload, so the entries need a lent place of their own: no memory is asked for here.
+/// The entries, put into the front of a buffer.
+pub(crate) fn rules_bytes<'b, G: Gas>(gas: &G, buffer: &'b mut [u8; 256]) -> &'b [u8]
+    ensures { result.now ≡ G.entries gas.now }
 {
     let states = states_of(gas.channels());
-    let mut bytes = [0u8; 256];
-    for place in 0..2 * states {
-        bytes[place] = entry_at(gas, states, place);
+    let rules = &mut buffer[..2 * states];
+    for (place, entry) in rules.iter_mut().enumerate() {
+        *entry = entry_at(gas, states, place);
     }
-    bytes
+    rules
 }

@@ -1,10 +1,12 @@
 -- Sums over a stretch of a row and over a patch, how large they can be, and where a patch lies.
-use Rattle.std.proofs.Common.{◌≡◌, ℕ, ◌+◌, ◌*◌, ◌/◌, ◌^◌, ◌<◌, ◌≤◌, List, length, get_or, take, drop, ℤ, ◌+ℤ◌, nat_abs, ap, ◌∙◌, div-mul-le_self, arith, length-drop, length-take, w64, SFits, to_z, of_z}
+use Rattle.std.proofs.Common.{◌≡◌, ℕ, ◌+◌, ◌*◌, ◌/◌, ◌^◌, ◌<◌, ◌≤◌, List, length, get_or, take, drop, ℤ, ◌+ℤ◌, nat_abs, ap, ◌∙◌, div-mul-le_self, arith, length-drop, length-take, w64, SFits, ap₂, sym}
 use Rattle.std.proofs.lemmas.Int.{ints}
 use Rattle.std.proofs.lemmas.Nat.{mul-le}
 use Rattle.std.proofs.lemmas.List.{get_or-take, get_or-drop}
+use Rattle.lattice.specs.declared.vector.Vector.{Vector}
 use Rattle.lattice.specs.Sums.{sum_n, sum_z}
-use Rattle.lattice.proofs.Sums.{sum_n_bound, sum_n_same, sum_nat_abs, sum_same}
+use Rattle.lattice.specs.Vectors.{vec, added, sum_v}
+use Rattle.lattice.proofs.Sums.{sum_more, sum_n_bound, sum_n_same, sum_nat_abs, sum_same}
 use Rattle.lattice.proofs.Cells.{row_next}
 use Rattle.gas.specs.Model.{GasModel}
 use Rattle.gas.specs.Laws.{GasLaws}
@@ -59,9 +61,21 @@ along_small m laws xs j b cell few = sum_nat_abs j 3584 (λ i. sum_z b (λ k. (m
 pub across_small : (m : GasModel) → GasLaws m → (xs : List ℕ) (j b : ℕ) (cell : ℕ → ℕ → ℕ) → b ≤ 256 → nat_abs (sum_z j (λ i. sum_z b (λ k. (momentum_at m xs (cell k i)).across))) ≤ j * 3584
 across_small m laws xs j b cell few = sum_nat_abs j 3584 (λ i. sum_z b (λ k. (momentum_at m xs (cell k i)).across)) (λ i l. stretch_across m laws xs b (λ k. cell k i) few)
 
--- a running sum of small numbers, as the machine adds: it fits, and is the sum
-pub sum_fits : {x v s f : ℤ} → x ≡ s → v ≡ f → nat_abs s ≤ 2 ^ 40 → nat_abs f ≤ 2 ^ 40 → SFits w64 (x +ℤ to_z w64 (of_z w64 v))
+-- a running sum of small numbers fits
+sum_fits : {x v s f : ℤ} → x ≡ s → v ≡ f → nat_abs s ≤ 2 ^ 40 → nat_abs f ≤ 2 ^ 40 → SFits w64 (x +ℤ v)
 sum_fits a b p q = omega (arith, ints)
 
-pub sum_is : {x v s f t : ℤ} → x ≡ s → v ≡ f → nat_abs s ≤ 2 ^ 40 → nat_abs f ≤ 2 ^ 40 → t ≡ s +ℤ f → to_z w64 (of_z w64 (x +ℤ to_z w64 (of_z w64 v))) ≡ t
-sum_is a b p q e = omega (arith, ints)
+-- the momentum of j rows, and of the row behind them: together they fit, and they are that of j + 1 rows
+pub momentum_fits : (m : GasModel) → GasLaws m → (xs : List ℕ) (j b : ℕ) (cell : ℕ → ℕ → ℕ) → j ≤ 256 → b ≤ 256 → {v w : Vector}
+    → v ≡ sum_v j (λ i. sum_v b (λ k. momentum_at m xs (cell k i))) → w ≡ sum_v b (λ k. momentum_at m xs (cell k j))
+    → SFits w64 (v.along +ℤ w.along) × SFits w64 (v.across +ℤ w.across)
+momentum_fits m laws xs j b cell rows few so_far row = (
+  sum_fits (ap (λ (v : Vector). v.along) so_far) (ap (λ (v : Vector). v.along) row)
+      (omega (arith, along_small m laws xs j b cell few)) (omega (arith, stretch_along m laws xs b (λ k. cell k j) few)),
+  sum_fits (ap (λ (v : Vector). v.across) so_far) (ap (λ (v : Vector). v.across) row)
+      (omega (arith, across_small m laws xs j b cell few)) (omega (arith, stretch_across m laws xs b (λ k. cell k j) few)),
+)
+
+pub momentum_more : (j : ℕ) (f : ℕ → Vector) {v w : Vector} → v ≡ sum_v j f → w ≡ f j → added v w ≡ sum_v (j + 1) f
+momentum_more j f so_far row =
+    ap₂ added so_far row ∙ sym (ap₂ vec (sum_more j (λ i. (f i).along)) (sum_more j (λ i. (f i).across)))

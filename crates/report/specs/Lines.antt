@@ -2,11 +2,9 @@
 -- leading zeros.
 use Rattle.std.specs.Prelude.{ℕ, Bool, cond, ◌&&◌, List, [], ◌++◌, pos, codes, decimal, ◌==◌}
 use Rattle.std.specs.Fmt.{signed_decimal}
+use Rattle.std.specs.Ordering.{int_eq}
 use Rattle.lattice.specs.declared.vector.Vector.{Vector}
-use Rattle.lattice.specs.Vectors.{vec}
 use Rattle.gas.specs.declared.totals.Totals.{Totals}
-use Rattle.gas.specs.Judging.{same_number}
-use Rattle.lattice.specs.declared.vector.Vector.{Vector as Account}
 use Rattle.book.specs.Accounts.{fan_account}
 use Rattle.report.specs.declared.patch.Patch.{Patch}
 
@@ -35,9 +33,9 @@ abbrev pub account_name : ℕ → List ℕ
 account_name n = cond (n == fan_account) (codes "fan") (codes "wall " ++ decimal n)
 
 -- whether an account is (0, 0)
-abbrev pub is_none : Account → Bool
-is_none a = same_number a.along (pos 0) && same_number a.across (pos 0)
+abbrev pub is_none : Vector → Bool
+is_none a = int_eq a.along (pos 0) && int_eq a.across (pos 0)
 
 -- account n has a line if it is not (0, 0)
-abbrev pub account_line : ℕ → Account → List ℕ
-account_line n a = cond (is_none a) [] (account_name n ++ vector_end (vec a.along a.across))
+abbrev pub account_line : ℕ → Vector → List ℕ
+account_line n a = cond (is_none a) [] (account_name n ++ vector_end a)

@@ -1,11 +1,13 @@
 -- The report: the step count; each patch of b × b cells, by rows; each account that is not (0, 0), in order; and the total of all cells.
 use Rattle.std.specs.Prelude.{ℕ, ◌+◌, ◌*◌, ◌/◌, List, ◌++◌, take}
 use Rattle.lattice.specs.declared.grid.Grid.{Grid}
+use Rattle.gas.specs.declared.Gas as Gas
 use Rattle.gas.specs.Model.{GasModel}
 use Rattle.lattice.specs.declared.vector.Vector.{Vector as Account}
 use Rattle.book.specs.Accounts.{accounts, account_at}
 use Rattle.dynamics.specs.Tunnels.{RunState, cells}
 use Rattle.text.specs.Texts.{texts}
+use Rattle.report.specs.declared.shown.Shown.{Shown}
 use Rattle.report.specs.Patches.{patch_at, field_totals}
 use Rattle.report.specs.Lines.{step_line, patch_line, account_line, total_line}
 
@@ -43,6 +45,10 @@ shown gas grid steps book field = record {
   book = book;
   field = take (grid.width * grid.height) field;
 }
+
+-- what the program shows, as such a snapshot
+abbrev pub told : {G : Type 0} → (g : Gas.Ghosts G) → Shown G g → Snapshot
+told g s = shown (g.model s.gas.now) s.grid s.steps s.book.now.accounts s.field.now
 
 -- the same of a run and its field
 abbrev pub snapshot : RunState → List ℕ → Snapshot

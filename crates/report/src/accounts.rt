@@ -1,54 +1,40 @@
 // The lines of the accounts.
-ghost use Rattle.std.specs.Prelude.{◌≡◌};
-ghost use Rattle.text.specs.Buffers.{Puts};
-ghost use Rattle.report.specs.Lines.{account_name, is_none, account_line};
+ghost use Rattle.text.specs.Sheets.{Adds};
+ghost use Rattle.report.specs.Lines.{account_name, account_line};
 ghost use Rattle.report.specs.Reports.{account_lines};
 
 use super::lines::put_vector;
 use book::{ACCOUNTS, Account, Book};
-use lattice::Vector;
-use text::{put_bytes, put_number};
+use text::Sheet;
 
 /// `wall` and the number, or `fan`.
-fn put_name(n: usize, out: &mut [u8], at: usize) -> usize
-    ensures { Puts (account_name n) out.old at result out.new }
+fn put_name(n: usize, sheet: &mut Sheet)
+    ensures { Adds (account_name n) sheet.old sheet.new }
 {
     if n == ACCOUNTS {
-        return put_bytes(b"fan", out, at);
+        sheet.put_bytes(b"fan");
+        return;
     }
-    let word = put_bytes(b"wall ", out, at);
-    put_number(n as u64, out, word)
-}
-
-/// Whether an account is (0, 0).
-fn is_none(account: Account) -> bool
-    ensures { result ≡ is_none account }
-{
-    account.along == 0 && account.across == 0
+    sheet.put_bytes(b"wall ");
+    sheet.put_number(n);
 }
 
 /// The line of account n, if it has one.
-fn put_account(n: usize, account: Account, out: &mut [u8], at: usize) -> usize
-    ensures { Puts (account_line n account) out.old at result out.new }
+fn put_account(n: usize, account: Account, sheet: &mut Sheet)
+    ensures { Adds (account_line n account) sheet.old sheet.new }
 {
-    if is_none(account) {
-        return at;
+    if account == Account::default() {
+        return;
     }
-    let name = put_name(n, out, at);
-    let taken = Vector {
-        along: account.along,
-        across: account.across,
-    };
-    put_vector(taken, out, name)
+    put_name(n, sheet);
+    put_vector(account, sheet);
 }
 
 /// The lines of all accounts that have one.
-pub(crate) fn put_accounts(book: &Book, out: &mut [u8], at: usize) -> usize
-    ensures { Puts (account_lines book.now.accounts) out.old at result out.new }
+pub(crate) fn put_accounts(book: &Book, sheet: &mut Sheet)
+    ensures { Adds (account_lines book.now.accounts) sheet.old sheet.new }
 {
-    let mut end = at;
-    for index in 0..ACCOUNTS {
-        end = put_account(index + 1, book.account(index + 1), out, end);
+    for (index, account) in book.accounts.iter().enumerate() {
+        put_account(index + 1, *account, sheet);
     }
-    end
 }

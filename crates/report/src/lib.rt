@@ -6,5 +6,6 @@ mod lines;
 mod patch;
 mod patches;
 mod report;
+mod shown;
 
-pub use report::write_report;
+pub use shown::Shown;

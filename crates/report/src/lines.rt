@@ -1,55 +1,55 @@
-// The lines of a report, put into a buffer field by field.
-ghost use Rattle.text.specs.Buffers.{Puts};
+// The lines of a report, put on a sheet field by field.
+ghost use Rattle.text.specs.Sheets.{Adds};
 ghost use Rattle.report.specs.Lines.{step_line, vector_end, totals_end, patch_line, total_line};
 
 use super::patch::Patch;
 use gas::Totals;
 use lattice::Vector;
-use text::{put_bytes, put_number, put_signed};
+use text::Sheet;
 
 /// `step` and the step count.
-pub(crate) fn put_step(steps: u32, out: &mut [u8], at: usize) -> usize
-    ensures { Puts (step_line steps) out.old at result out.new }
+pub(crate) fn put_step(steps: u32, sheet: &mut Sheet)
+    ensures { Adds (step_line steps) sheet.old sheet.new }
 {
-    let word = put_bytes(b"step ", out, at);
-    let count = put_number(u64::from(steps), out, word);
-    put_bytes(b"\n", out, count)
+    sheet.put_bytes(b"step ");
+    sheet.put_number(steps);
+    sheet.put_bytes(b"\n");
 }
 
 /// Along and across, the end of a line.
-pub(crate) fn put_vector(vector: Vector, out: &mut [u8], at: usize) -> usize
-    ensures { Puts (vector_end vector) out.old at result out.new }
+pub(crate) fn put_vector(vector: Vector, sheet: &mut Sheet)
+    ensures { Adds (vector_end vector) sheet.old sheet.new }
 {
-    let first = put_bytes(b" ", out, at);
-    let along = put_signed(vector.along, out, first);
-    let second = put_bytes(b" ", out, along);
-    let across = put_signed(vector.across, out, second);
-    put_bytes(b"\n", out, across)
+    sheet.put_bytes(b" ");
+    sheet.put_number(vector.along);
+    sheet.put_bytes(b" ");
+    sheet.put_number(vector.across);
+    sheet.put_bytes(b"\n");
 }
 
 /// Particles, along and across, the end of a line.
-fn put_totals(totals: Totals, out: &mut [u8], at: usize) -> usize
-    ensures { Puts (totals_end totals) out.old at result out.new }
+fn put_totals(totals: Totals, sheet: &mut Sheet)
+    ensures { Adds (totals_end totals) sheet.old sheet.new }
 {
-    let particles = put_number(u64::from(totals.particles), out, at);
-    put_vector(totals.momentum, out, particles)
+    sheet.put_number(totals.particles);
+    put_vector(totals.momentum, sheet);
 }
 
 /// A patch's column, its row and its totals.
-pub(crate) fn put_patch(patch: Patch, out: &mut [u8], at: usize) -> usize
-    ensures { Puts (patch_line patch) out.old at result out.new }
+pub(crate) fn put_patch(patch: Patch, sheet: &mut Sheet)
+    ensures { Adds (patch_line patch) sheet.old sheet.new }
 {
-    let first = put_number(u64::from(patch.column), out, at);
-    let second = put_bytes(b" ", out, first);
-    let third = put_number(u64::from(patch.row), out, second);
-    let fourth = put_bytes(b" ", out, third);
-    put_totals(patch.totals, out, fourth)
+    sheet.put_number(patch.column);
+    sheet.put_bytes(b" ");
+    sheet.put_number(patch.row);
+    sheet.put_bytes(b" ");
+    put_totals(patch.totals, sheet);
 }
 
 /// `total` and the totals of all cells.
-pub(crate) fn put_total(totals: Totals, out: &mut [u8], at: usize) -> usize
-    ensures { Puts (total_line totals) out.old at result out.new }
+pub(crate) fn put_total(totals: Totals, sheet: &mut Sheet)
+    ensures { Adds (total_line totals) sheet.old sheet.new }
 {
-    let word = put_bytes(b"total ", out, at);
-    put_totals(totals, out, word)
+    sheet.put_bytes(b"total ");
+    put_totals(totals, sheet);
 }

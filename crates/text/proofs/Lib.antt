@@ -1,3 +1,3 @@
-pub mod Spells
 pub mod Places
-pub mod Rows
+pub mod Slices
+pub mod Sheets

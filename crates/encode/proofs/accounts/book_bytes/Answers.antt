@@ -1,25 +1,25 @@
-use Rattle.std.proofs.Common.{◌≡◌, length, replicate, ap, arith, rules}
+use Rattle.std.proofs.Common.{◌≡◌, length, ap, arith}
 use Rattle.std.proofs.lemmas.List.{take_all}
-use Rattle.text.proofs.Places.{puts_none, puts_then, puts_same}
-use Rattle.encode.specs.Encodings.{account_bytes, book_bytes}
-use Rattle.encode.proofs.Books.{book_none, book_more, book_put}
+use Rattle.text.proofs.Sheets.{adds_none, adds_then, adds_same, covered}
+use Rattle.encode.specs.Encodings.{book_bytes}
+use Rattle.encode.proofs.Lengths.{length_book}
+use Rattle.encode.proofs.Books.{book_none, book_more}
 use Rattle.encode.proofs.accounts.book_bytes.Goals as goal
 
-pub loop-index-init : goal.loop-index-init
-loop-index-init c = (search rules, puts_same (book_none c.args.book.now.accounts) (puts_none (replicate 256 0) 0 (omega arith)))
+pub loop-account-init : goal.loop-account-init
+loop-account-init c = adds_same (book_none c.args.book.now.accounts) (adds_none c.new-sheet.result)
 
-pub loop-index-preserved : goal.loop-index-preserved
-loop-index-preserved c =
+pub loop-account-preserved : goal.loop-account-preserved
+loop-account-preserved c =
     let book = c.args.book.now.accounts in
-    let k = c.loop-index.index in
-    let full : length book ≡ 16 = c.args.book.now.full in (
-      search rules,
-      puts_same (book_more book k (omega arith))
-          (puts_then (omega arith) c.loop-index.invariant.1 (puts_same (ap account_bytes c.account.ensures) c.put_account-end.ensures)),
-    )
+    let full : length book ≡ 16 = c.args.book.now.full in
+    adds_same (book_more book c.loop-account.account-index (omega (arith, full, c.loop-account-test.true))) (adds_then c.loop-account.invariant c.put_account.ensures)
 
 pub returns : goal.returns
 returns c =
     let book = c.args.book.now.accounts in
     let full : length book ≡ 16 = c.args.book.now.full in
-    book_put book c.loop-index.end c.loop-index.bytes full (puts_same (ap book_bytes (take_all c.loop-index.index book (omega arith))) c.loop-index.invariant.1)
+    let all = adds_same (ap book_bytes (take_all c.loop-account.account-index book (omega (arith, full, c.loop-account-test.false)))) c.loop-account.invariant in
+    let zeros : length c.new-sheet.result.out.now ≡ 256 = ap length c.new-sheet.ensures.bytes in
+    let done = covered c.new-sheet.ensures.place (omega (arith, length_book book, full, zeros)) all in
+    grind (arith, done, all.same_buffer, c.new-sheet.ensures.buffer)

@@ -1,8 +1,8 @@
-use Rattle.std.proofs.Common.{◌≡◌, length, take, replicate}
-use Rattle.text.specs.Buffers.{Puts}
+use Rattle.std.proofs.Common.{take}
+use Rattle.text.specs.Sheets.{Adds}
 use Rattle.encode.specs.Encodings.{book_bytes}
 use Rattle.encode.proofs.accounts.book_bytes.Given as goal
 
--- the first accounts stand in the buffer
-abbrev pub invariant-loop-index : goal.invariant-loop-index
-invariant-loop-index l = (length l.bytes ≡ 256) × Puts (book_bytes (take l.index l.book.accounts)) (replicate 256 0) 0 l.end l.bytes
+-- the first accounts stand
+abbrev pub invariant-loop-account : goal.invariant-loop-account
+invariant-loop-account l = Adds (book_bytes (take l.account-index l.book.accounts)) l.initial.sheet l.sheet

@@ -1,14 +1,11 @@
-use Rattle.std.proofs.Common.{ap, ◌∙◌, arith, w64, SFits, of_z, rules}
-use Rattle.std.proofs.lemmas.Int.{to_z-of_z}
-use Rattle.records.specs.Format.{le}
-use Rattle.text.proofs.Places.{puts_then, puts_same}
+use Rattle.std.proofs.Common.{◌∙◌, w64, SFits, rules}
+use Rattle.text.proofs.Sheets.{adds_then, adds_same}
+use Rattle.encode.proofs.LowBytes.{le_signed}
 use Rattle.encode.proofs.accounts.put_account.Goals as goal
 
 pub returns : goal.returns
 returns c =
-    let along = c.args.account.along in
-    let across = c.args.account.across in
-    let x : SFits w64 along = search rules in
-    let y : SFits w64 across = search rules in
-    puts_then (omega arith) (puts_same (c.eight_bytes.ensures ∙ ap (λ z. le 8 (of_z w64 z)) (to_z-of_z w64 along x)) c.put_bytes-along.ensures)
-    (puts_same (c.eight_bytes-2.ensures ∙ ap (λ z. le 8 (of_z w64 z)) (to_z-of_z w64 across y)) c.put_bytes.ensures)
+    let x : SFits w64 c.args.account.along = search rules in
+    let y : SFits w64 c.args.account.across = search rules in
+    adds_then (adds_same (c.to_le_bytes.ensures ∙ le_signed c.args.account.along x) c.put_bytes.ensures)
+    (adds_same (c.to_le_bytes-2.ensures ∙ le_signed c.args.account.across y) c.put_bytes-2.ensures)

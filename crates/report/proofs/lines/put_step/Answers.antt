@@ -1,8 +1,5 @@
-use Rattle.std.proofs.Common.{decimal, ap, arith}
-use Rattle.text.proofs.Places.{puts_then, puts_same}
+use Rattle.text.proofs.Sheets.{adds_then}
 use Rattle.report.proofs.lines.put_step.Goals as goal
 
 pub returns : goal.returns
-returns c =
-    puts_then (omega arith) c.put_bytes-word.ensures
-    (puts_then (omega arith) (puts_same (ap decimal c.from.ensures) c.put_number-count.ensures) c.put_bytes.ensures)
+returns c = adds_then c.put_bytes.ensures (adds_then c.put_number.ensures c.put_bytes-2.ensures)

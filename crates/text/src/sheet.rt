@@ -1,0 +1,51 @@
+// A lent buffer that is being filled: as many bytes as fit, and the place behind them.
+ghost use Rattle.std.specs.Prelude.{◌≡◌, ◌^◌, ◌<◌, length};
+
+use itoa::Integer;
+
+/// A lent buffer, and the place reached in it.
+#[derive(Drop)]
+pub struct Sheet<'a> {
+    out: &'a mut [u8],
+    at: usize,
+    ghost short: { length out.now < 2 ^ 64 },
+    ghost counted: { at < 2 ^ 64 },
+}
+
+impl<'a> Sheet<'a> {
+    ghost use Rattle.text.specs.Sheets.{Adds};
+
+    /// A sheet with nothing on it yet.
+    pub fn new(out: &'a mut [u8]) -> Sheet<'a>
+        ensures buffer { result.out.ghost_name ≡ out.entry.ghost_name }
+        ensures bytes { result.out.now ≡ out.old }
+        ensures place { result.at ≡ 0 }
+    {
+        Sheet { out, at: 0 }
+    }
+
+    /// The place behind what was put.
+    pub fn place(&self) -> usize
+        ensures { result ≡ self.now.at }
+    {
+        self.at
+    }
+
+    /// Puts bytes: as many as fit.
+    pub fn put_bytes(&mut self, bytes: &[u8])
+        ensures { Adds bytes.now self.old self.new }
+    {
+        let start = self.at.min(self.out.len());
+        let count = bytes.len().min(self.out.len() - start);
+        self.out[start..start + count].copy_from_slice(&bytes[..count]);
+        self.at = self.at.saturating_add(bytes.len());
+    }
+
+    /// Puts a number's digits, with a minus sign before them if it is negative.
+    pub fn put_number<I: Integer>(&mut self, number: I)
+        ensures { Adds (I.text number) self.old self.new }
+    {
+        let mut buffer = itoa::Buffer::new();
+        self.put_bytes(buffer.format(number).as_bytes());
+    }
+}
