@@ -9,7 +9,7 @@ ghost use Rattle.run.specs.View.{view};
 
 use super::judging::{judge_field, judge_length, judge_map};
 use super::run::Run;
-use encode::write_file;
+use encode::Held;
 use faults::CallFault;
 use gas::Gas;
 use lattice::states_of;
@@ -43,17 +43,12 @@ impl<G: Gas, S: TwistSource> Run<G, S> {
         ensures { Marked (view G.Gas S.TwistSource self.now) map.now field.now out.old result (view G.Gas S.TwistSource self.now) out.new }
     {
         self.judge_mark(map, field, out)?;
-        Ok(write_file(
-            &self.state.gas,
-            &self.state.source,
-            self.state.grid,
-            self.state.period,
-            self.state.steps,
-            &self.state.book,
+        let held = Held {
+            state: &self.state,
             map,
             field,
-            out,
-        ))
+        };
+        Ok(held.write_file(out))
     }
 
     /// How large an output `mark` is to be given: what it needs, and at most 24 bytes more.

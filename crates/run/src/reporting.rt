@@ -10,7 +10,7 @@ use super::run::Run;
 use faults::CallFault;
 use gas::Gas;
 use lattice::states_of;
-use report::write_report;
+use report::Shown;
 use twist::TwistSource;
 
 const WIDEST_PATCH: u32 = 64;
@@ -37,15 +37,11 @@ impl<G: Gas, S: TwistSource> Run<G, S> {
         ensures { Reported (view G.Gas S.TwistSource self.now) b field.now out.old result (view G.Gas S.TwistSource self.now) out.new }
     {
         self.judge_patches(b, field)?;
-        write_report(
-            &self.state.gas,
-            self.state.grid,
-            self.state.steps,
-            &self.state.book,
+        let shown = Shown {
+            state: &self.state,
             field,
-            b,
-            out,
-        )
-        .ok_or(CallFault::ShortOutput)
+            patch: b,
+        };
+        shown.write_report(out).ok_or(CallFault::ShortOutput)
     }
 }
