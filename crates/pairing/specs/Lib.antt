@@ -1,4 +1,3 @@
 pub mod Jobs
 pub mod Pairings
 pub mod Results
-pub mod Reports

@@ -1,5 +1,6 @@
 -- The square gas is tried, then the hexagonal, each with parity and then the register. The first that is not refused because of its kinds answers, or the last.
 use Rattle.std.specs.Prelude.{ℕ, Bool, false, cond, List, Ok, Err, Result, ◌==◌}
+use Rattle.gas.specs.Model.{GasModel}
 use Rattle.square.specs.Square.{square}
 use Rattle.hexagonal.specs.Hexagonal.{hexagonal}
 use Rattle.twist.specs.Kinds.{parity, register}
@@ -16,9 +17,10 @@ foreign (Err f) = number f == 8
 abbrev pub unless_foreign : {A : Type 0} → Result A CallFault → Result A CallFault → Result A CallFault
 unless_foreign r later = cond (foreign r) later r
 
+-- on one gas, with parity and then the register
+abbrev pub chosen_on : GasModel → ℕ → ℕ → List ℕ → Result (List ℕ) CallFault
+chosen_on gas k b file = unless_foreign (job_outcome gas parity k b file) (job_outcome gas register k b file)
+
+-- on the square gas, and then the hexagonal
 abbrev pub chosen : ℕ → ℕ → List ℕ → Result (List ℕ) CallFault
-chosen k b file =
-    unless_foreign (job_outcome square parity k b file)
-    (unless_foreign (job_outcome square register k b file)
-    (unless_foreign (job_outcome hexagonal parity k b file)
-    (job_outcome hexagonal register k b file)))
+chosen k b file = unless_foreign (chosen_on square k b file) (chosen_on hexagonal k b file)

@@ -1,12 +1,12 @@
 // Which gas and which source a job is for.
 ghost use Rattle.std.specs.Prelude.{◌≡◌, Bool};
-ghost use Rattle.pairing.specs.Pairings.{foreign, chosen};
-ghost use Rattle.pairing.specs.Results.{Works};
+ghost use Rattle.pairing.specs.Pairings.{foreign, chosen, chosen_on};
+ghost use Rattle.pairing.specs.Results.{Workable, Made};
 
-use super::buffers::Buffers;
 use super::jobs::work;
 use super::orders::Order;
 use faults::{CallFault, JobFault};
+use gas::Gas;
 use hexagonal::HexagonalGas;
 use square::SquareGas;
 use twist::{Parity, Register};
@@ -21,21 +21,43 @@ fn is_foreign(outcome: &Result<usize, CallFault>) -> bool
     )
 }
 
-/// Tries the square gas, then the hexagonal, each with parity and then the register: the first that is not foreign answers, or the last.
-pub fn choose(order: Order, file: &[u8], buffers: &mut Buffers) -> Result<usize, CallFault>
-    ensures { Works (chosen order.steps order.patch file.now) buffers.old result buffers.new }
+/// Works the job on this gas with parity, and with the register if it is foreign to that.
+fn work_on<G: Gas + Copy>(
+    gas: G,
+    order: Order,
+    file: &[u8],
+    map: &mut [u8],
+    field: &mut [u8],
+    spare: &mut [u8],
+    out: &mut [u8],
+) -> Result<usize, CallFault>
+    requires { Workable map.old field.old spare.old out.old }
+    ensures { Made (chosen_on (G.Gas.model gas) order.steps order.patch file.now) out.old result out.new }
 {
-    let first = work(SquareGas::new(), Parity, order, file, buffers);
-    if !is_foreign(&first) {
-        return first;
+    let by_parity = work(gas, Parity, order, file, map, field, spare, out);
+    if !is_foreign(&by_parity) {
+        return by_parity;
     }
-    let second = work(SquareGas::new(), Register::new(), order, file, buffers);
-    if !is_foreign(&second) {
-        return second;
+    let register = Register::new();
+    work(gas, register, order, file, map, field, spare, out)
+}
+
+/// Tries the square gas, then the hexagonal, each with parity and then the register: the first that is not foreign answers, or the last.
+pub fn choose(
+    order: Order,
+    file: &[u8],
+    map: &mut [u8],
+    field: &mut [u8],
+    spare: &mut [u8],
+    out: &mut [u8],
+) -> Result<usize, CallFault>
+    requires { Workable map.old field.old spare.old out.old }
+    ensures { Made (chosen order.steps order.patch file.now) out.old result out.new }
+{
+    let on_square = work_on(SquareGas::new(), order, file, map, field, spare, out);
+    if !is_foreign(&on_square) {
+        return on_square;
     }
-    let third = work(HexagonalGas::new(), Parity, order, file, buffers);
-    if !is_foreign(&third) {
-        return third;
-    }
-    work(HexagonalGas::new(), Register::new(), order, file, buffers)
+    let hexagonal = HexagonalGas::new();
+    work_on(hexagonal, order, file, map, field, spare, out)
 }

@@ -1,25 +1,35 @@
 // A job from beginning to end, on one gas and one source.
+ghost use Rattle.std.specs.Prelude.{◌≡◌};
 ghost use Rattle.pairing.specs.Jobs.{job_outcome};
-ghost use Rattle.pairing.specs.Results.{Works};
+ghost use Rattle.pairing.specs.Results.{Workable, Made};
 
-use super::buffers::Buffers;
 use super::orders::Order;
 use faults::CallFault;
 use gas::Gas;
 use run::Run;
 use twist::TwistSource;
 
+/// No grid has more cells, so map, field and spare of this length suit every file.
+pub const MOST_CELLS: usize = 16_384;
+
+/// No report is longer.
+pub const LONGEST_REPORT: usize = 65_536;
+
+// The four buffers are not one struct: two of them are lent to a call at a time, one to read and one to write, which no proof is made for through a struct's references.
 /// Opens the file in a new run of this gas and this source, takes the steps, and writes the report.
 pub fn work<G: Gas + Drop, S: TwistSource>(
     gas: G,
     source: S,
     order: Order,
     file: &[u8],
-    buffers: &mut Buffers,
+    map: &mut [u8],
+    field: &mut [u8],
+    spare: &mut [u8],
+    out: &mut [u8],
 ) -> Result<usize, CallFault>
-    ensures { Works (job_outcome (G.Gas.model gas) (S.TwistSource.model source) order.steps order.patch file.now) buffers.old result buffers.new }
+    requires { Workable map.old field.old spare.old out.old }
+    ensures { Made (job_outcome (G.Gas.model gas) (S.TwistSource.model source) order.steps order.patch file.now) out.old result out.new }
 {
-    let Buffers { map, field, spare, out } = buffers;
     let mut run = Run::new(gas, source);
     run.open(file, map, field)?;
     run.advance(order.steps, map, field, spare)?;

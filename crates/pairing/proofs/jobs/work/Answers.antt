@@ -25,11 +25,11 @@ pub returns-in_err-advance : goal.returns-in_err-advance
 returns-in_err-advance g c =
     let told = err_from_is_err_and c.from_residual-in_err-advance.result c.from_residual-in_err-advance.ensures.1 in
     refused_advance (g.G.Gas.model c.args.gas) (g.S.TwistSource.model c.args.source) _ _ _ _ c.new-run.ensures c.requires.map_room c.requires.field_room
-    (g.met.G.Gas.lawful c.args.gas) (g.met.S.TwistSource.lawful c.args.source) c.args.order.steps c.requires.some c.requires.few _ c.requires.spare_room _ _ _ (open_at g (goal.at.returns-in_err-advance g c).In_ok-open)
+    (g.met.G.Gas.lawful c.args.gas) (g.met.S.TwistSource.lawful c.args.source) c.args.order.steps c.args.order.some c.args.order.few _ c.requires.spare_room _ _ _ (open_at g (goal.at.returns-in_err-advance g c).In_ok-open)
     c.args.order.patch c.in_err-advance.field-0.0 _ _ _ _ _ c.in_err-advance.ensures (told.1 ∙ ap {B = Result ℕ CallFault} Err told.2)
 
 pub returns : goal.returns
 returns g c =
     done (g.G.Gas.model c.args.gas) (g.S.TwistSource.model c.args.source) _ _ _ _ c.new-run.ensures c.requires.map_room c.requires.field_room
-    (g.met.G.Gas.lawful c.args.gas) (g.met.S.TwistSource.lawful c.args.source) c.args.order.steps c.requires.some c.requires.few _ c.requires.spare_room _ _ _ (open_at g (goal.at.returns g c).In_ok-open)
+    (g.met.G.Gas.lawful c.args.gas) (g.met.S.TwistSource.lawful c.args.source) c.args.order.steps c.args.order.some c.args.order.few _ c.requires.spare_room _ _ _ (open_at g (goal.at.returns g c).In_ok-open)
     _ _ _ _ c.in_ok-advance.ensures c.args.order.patch _ c.requires.out_size _ _ _ c.report.ensures
