@@ -57,43 +57,31 @@ pub trait Gas {
     fn particles(&self, state: u8) -> u8
         ensures { result ≡ particles_of (model self.now) state }
     {
-        let mut count = 0;
-        for channel in 0..self.channels() {
-            if held(state, channel) {
-                count += 1;
-            }
-        }
-        count
+        (0..self.channels())
+            .filter(|channel| held(state, *channel))
+            .count() as u8
     }
 
     /// The sum of the vectors of a state's particles.
     fn momentum(&self, state: u8) -> Vector
         ensures { result ≡ momentum_of (model self.now) state }
     {
-        let mut along = 0;
-        let mut across = 0;
+        let mut momentum = Vector::default();
         for channel in 0..self.channels() {
             if held(state, channel) {
-                let vector = self.vector(channel);
-                along += vector.along;
-                across += vector.across;
+                momentum += self.vector(channel);
             }
         }
-        Vector { along, across }
+        momentum
     }
 
     /// Whether a collision may turn `state` into `outcome`.
     fn is_sound(&self, state: u8, outcome: u8) -> bool
         ensures { result ≡ sound_entry (model self.now) state outcome }
     {
-        if outcome as usize >= states_of(self.channels())
-            || self.particles(outcome) != self.particles(state)
-        {
-            return false;
-        }
-        let before = self.momentum(state);
-        let after = self.momentum(outcome);
-        after.along == before.along && after.across == before.across
+        (outcome as usize) < states_of(self.channels())
+            && self.particles(outcome) == self.particles(state)
+            && self.momentum(outcome) == self.momentum(state)
     }
 
     /// Whether there is an entry at this place of a list, there should be one, and it is sound.
@@ -101,10 +89,9 @@ pub trait Gas {
         ensures { result ≡ sound_place (model self.now) list.now place }
     {
         let states = states_of(self.channels());
-        if place >= list.len() || place >= 2 * states {
-            return false;
-        }
-        self.is_sound((place % states) as u8, list[place])
+        place < list.len()
+            && place < 2 * states
+            && self.is_sound((place % states) as u8, list[place])
     }
 
     /// Judges a list of entries without taking it.
@@ -112,12 +99,10 @@ pub trait Gas {
         ensures { result ≡ table_judged (model self.now) list.now }
     {
         let places = list.len().max(2 * states_of(self.channels()));
-        for place in 0..places {
-            if !self.sound_place(list, place) {
-                return Err(TableFault::Unsound(place));
-            }
+        match (0..places).find(|place| !self.sound_place(list, *place)) {
+            Some(place) => Err(TableFault::Unsound(place)),
+            None => Ok(()),
         }
-        Ok(())
     }
 
     /// The state that streams into a cell.
@@ -143,8 +128,8 @@ pub trait Gas {
         if row >= grid.height() as usize || from.len() < grid.cells() || to.len() < width {
             return;
         }
-        for column in 0..width {
-            to[column] = self.arriving(grid, from, row * width + column);
+        for (column, state) in to[..width].iter_mut().enumerate() {
+            *state = self.arriving(grid, from, row * width + column);
         }
     }
 

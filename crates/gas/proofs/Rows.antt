@@ -1,0 +1,21 @@
+-- A row is streamed where its first w places are written, and the rest is as before.
+use Rattle.std.proofs.Common.{◌≡◌, ℕ, ◌+◌, ◌-◌, ◌*◌, ◌<◌, ◌≤◌, true, List, ◌++◌, length, get_or, drop, sym, ap, ◌∙◌, arith}
+use Rattle.std.proofs.lemmas.Bool.{lt-ltb, le-leb, and_from, false≢true}
+use Rattle.std.proofs.lemmas.List.{get_or_append_left, get_or-drop}
+use Rattle.std.proofs.Math.Seq.{get_or-append_right}
+use Rattle.lattice.specs.Grids.{cell_at}
+use Rattle.gas.specs.Model.{GasModel}
+use Rattle.gas.specs.Streaming.{arriving, row_fits, RowStreamed}
+
+pub row_streamed : (m : GasModel) (w h r n : ℕ) (from to row : List ℕ) → r < h → w * h ≤ length from → w ≤ length to → n ≡ w → length row ≡ w
+    → ((c : ℕ) → c < w → get_or row c 0 ≡ arriving m w h from (cell_at w c r)) → RowStreamed m w h r from to (row ++ drop n to)
+row_streamed m w h r n from to row inside whole room wide long each =
+    let fits : row_fits w h r from to ≡ true = and_from _ _ (lt-ltb r h inside) (and_from _ _ (le-leb (w * h) (length from) whole) (le-leb w (length to) room)) in
+    record {
+      row = λ _ c l. get_or_append_left row (drop n to) 0 c (omega arith) ∙ each c l;
+      rest = λ _ k l.
+          get_or-append_right row (drop n to) k 0 (omega arith)
+          ∙ get_or-drop n to (k - length row) 0
+          ∙ ap (λ (j : ℕ). get_or to j 0) (let back : n + (k - length row) ≡ k = omega arith in back);
+      unfit = λ e. absurd (false≢true (sym e ∙ fits));
+    }
