@@ -5,4 +5,4 @@ mod laws;
 mod role;
 
 pub use laws::{moves_decide, step_keeps, steps_keep};
-pub use role::{Role, role_of};
+pub use role::{HIGHEST_MAP_BYTE, Role};
