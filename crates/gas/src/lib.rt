@@ -3,6 +3,8 @@
 
 mod fault;
 mod laws;
+mod outcomes;
+mod rows;
 mod totals;
 
 ghost use Rattle.std.specs.Prelude.{◌≡◌, ℕ, ◌<◌, List};
@@ -15,6 +17,8 @@ ghost use Rattle.gas.specs.Streaming.{arriving as arriving_at, RowStreamed};
 pub use fault::TableFault;
 use lattice::{Grid, Vector, byte_at, held, state_where, states_of};
 pub use laws::taken_if_sound;
+pub use outcomes::outcome_in;
+pub use rows::row_fits;
 pub use totals::{Totals, field_totals};
 
 /// A lattice gas: what it is made of never changes, and the entries it holds are always sound.
@@ -124,10 +128,10 @@ pub trait Gas {
     fn stream_row(&self, grid: Grid, row: usize, from: &[u8], to: &mut [u8])
         ensures { RowStreamed (model self.now) grid.width grid.height row from.now to.old to.new }
     {
-        let width = grid.width() as usize;
-        if row >= grid.height() as usize || from.len() < grid.cells() || to.len() < width {
+        if !row_fits(grid, row, from, to) {
             return;
         }
+        let width = grid.width() as usize;
         for (column, state) in to[..width].iter_mut().enumerate() {
             *state = self.arriving(grid, from, row * width + column);
         }

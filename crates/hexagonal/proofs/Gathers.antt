@@ -5,7 +5,7 @@ use Rattle.lattice.specs.declared.rows.Rows.{Rows}
 use Rattle.lattice.specs.Grids.{cell_at, onward, backward}
 use Rattle.lattice.specs.Sources.{rows_around, gathered}
 use Rattle.lattice.proofs.Making.{state_of-kept}
-use Rattle.lattice.proofs.Rings.{wrap_in, onward_next, backward_next}
+use Rattle.lattice.proofs.Rings.{wrap_in, backward_next}
 use Rattle.gas.specs.Model.{GasModel}
 use Rattle.gas.specs.Streaming.{arriving}
 use Rattle.gas.proofs.Arrivals.{gathered-arriving}
@@ -13,13 +13,16 @@ use Rattle.hexagonal.specs.Channels.{across, column_by, row_by}
 use Rattle.hexagonal.specs.Sources.{columns_around, sources, HexagonalChannels}
 use Rattle.hexagonal.specs.Lawful.{below_seven}
 
--- between the edges no column wraps
-pub columns_between : (w e c : ℕ) → e < 2 → 0 < c → c + 1 < w → record { west = c - 1; middle = c; east = c + 1; left = c + e - 1; right = c + e } ≡ columns_around w e c
-columns_between w e c p l h =
-    let west : c - 1 ≡ backward w c = sym (backward_next w c l (omega arith)) in
-    let east : c + 1 ≡ onward w c = sym (onward_next w c h) in
-    let left : c + e - 1 ≡ backward w (c + e) = sym (backward_next w (c + e) (omega arith) (omega arith)) in
-    let right : c + e ≡ (c + e) % w = sym (wrap_in (c + e) w (omega arith)) in
+-- in an even row the diagonals touch the column before and this one, in an odd row this one and the next
+pub columns_even : (w c : ℕ) → c < w → record { west = backward w c; middle = c; east = onward w c; left = backward w c; right = c } ≡ columns_around w 0 c
+columns_even w c l =
+    let same : c + 0 ≡ c = omega arith in
+    let right = wrap_in c w l in
+    cc
+
+pub columns_odd : (w c : ℕ) → c < w → record { west = backward w c; middle = c; east = onward w c; left = c; right = onward w c } ≡ columns_around w 1 c
+columns_odd w c l =
+    let left : backward w (c + 1) ≡ c = backward_next w (c + 1) (omega arith) (omega arith) ∙ omega arith in
     cc
 
 -- a channel's source is the cell that lies the opposite way

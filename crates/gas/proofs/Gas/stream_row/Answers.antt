@@ -1,9 +1,9 @@
 -- Each turn writes what arrives at its column.
-use Rattle.std.proofs.Common.{◌≡◌, ℕ, ◌+◌, ◌*◌, take, length, ap, ◌∙◌, arith}
+use Rattle.std.proofs.Common.{◌≡◌, ℕ, ◌+◌, ◌*◌, take, length, sym, ap, ◌∙◌, arith}
 use Rattle.std.proofs.lemmas.List.{length-take-le}
 use Rattle.lattice.proofs.Writes.{write_more}
 use Rattle.gas.specs.Streaming.{arriving}
-use Rattle.gas.proofs.Rows.{row_streamed}
+use Rattle.gas.proofs.StreamedRows.{row_parts, row_streamed}
 use Rattle.gas.proofs.Gas.stream_row.Goals as goal
 
 pub loop-column-preserved : goal.loop-column-preserved
@@ -17,14 +17,11 @@ loop-column-preserved g c =
 
 pub returns : goal.returns
 returns g c =
-    let w = c.args.grid.width in
+    let n = c.width-width.result in
     let to = c.args.to.now in
-    let long : length (take c.width-width.result to) ≡ c.width-width.result = length-take-le c.width-width.result to c.if-to-width.false in
-    let wide = c.width-width.ensures.value in
-    row_streamed _ w c.args.grid.height c.args.row c.width-width.result c.args.from.now to c.loop-column.state-items
-    (omega (arith, c.if-row-height.false, c.height.ensures.value))
-    (omega (arith, c.if-from-cells.false, c.cells.ensures.value))
-    (omega arith)
-    wide
-    (omega (arith, c.loop-column.auto.state-items))
-    (λ k l. c.loop-column.invariant k (omega (arith, c.loop-column-test.false)))
+    let fits = sym c.row_fits.ensures ∙ c.if-not-row_fits.false in
+    let room = (row_parts c.args.grid.width c.args.grid.height c.args.row c.args.from.now to fits).2 in
+    let long : length (take n to) ≡ n = length-take-le n to (omega (arith, c.width-width.ensures.value)) in
+    row_streamed _ _ _ _ n _ to c.loop-column.state-items fits c.width-width.ensures.value
+    (omega (arith, c.width-width.ensures.value, c.loop-column.auto.state-items))
+    (λ k l. c.loop-column.invariant k (omega (arith, c.width-width.ensures.value, c.loop-column-test.false)))
