@@ -1,5 +1,5 @@
 // Streaming by rows, for every gas of the hexagonal lattice.
-ghost use Rattle.std.specs.Prelude.{◌≡◌, ℕ, ◌+◌, ◌<◌, ◌≤◌, length, bit_and, slice_index};
+ghost use Rattle.std.specs.Prelude.{◌≡◌, ℕ, ◌+◌, ◌<◌, ◌≤◌, length, cond, bit_and, slice_index};
 ghost use Rattle.lattice.specs.Sources.{gathered};
 ghost use Rattle.gas.specs.Model.{GasModel};
 ghost use Rattle.gas.specs.Streaming.{RowStreamed};
@@ -16,6 +16,19 @@ struct Columns {
     east: usize,
     left: usize,
     right: usize,
+}
+
+/// These three columns of a row, even or odd, with the two that touch the middle one in the rows beside.
+fn columns_around(odd: bool, west: usize, middle: usize, east: usize) -> Columns
+    ensures { result ≡ record { west = west; middle = middle; east = east; left = cond odd middle west; right = cond odd east middle } }
+{
+    Columns {
+        west,
+        middle,
+        east,
+        left: if odd { middle } else { west },
+        right: if odd { east } else { middle },
+    }
 }
 
 /// The state that comes from these columns of these rows, in the channels of the mask.
@@ -43,28 +56,9 @@ pub fn stream_hexagonal_row(grid: Grid, row: usize, from: &[u8], to: &mut [u8], 
     }
     let rows = rows_around(grid, row);
     let mask = (states_of(channels) - 1) as u8;
-    let ring = &mut to[..grid.width() as usize];
-    if row % 2 == 0 {
-        fill_ring(ring, |west, middle, east| {
-            let columns = Columns {
-                west,
-                middle,
-                east,
-                left: west,
-                right: middle,
-            };
-            gather(from, rows, columns, mask)
-        });
-    } else {
-        fill_ring(ring, |west, middle, east| {
-            let columns = Columns {
-                west,
-                middle,
-                east,
-                left: middle,
-                right: east,
-            };
-            gather(from, rows, columns, mask)
-        });
-    }
+    let odd = row % 2 == 1;
+    fill_ring(
+        &mut to[..grid.width() as usize],
+        |west, middle, east| gather(from, rows, columns_around(odd, west, middle, east), mask),
+    );
 }
