@@ -1,7 +1,8 @@
 -- The book has sixteen accounts: 1 to 15 are the obstacles', 16 is the fan's. A push changes one account alone.
 -- Each number of an account lies within 458,752 × step count of zero.
-use Rattle.std.specs.Prelude.{ℕ, ◌-◌, ◌*◌, Bool, true, ◌&&◌, List, [], ◌∷◌, pos, ◌+ℤ◌, nat_le, slice_index_or, slice_set, unsigned_abs}
+use Rattle.std.specs.Prelude.{ℕ, ◌-◌, ◌*◌, Bool, true, ◌&&◌, List, [], ◌∷◌, nat_le, slice_index_or, slice_set, unsigned_abs}
 use Rattle.lattice.specs.declared.vector.Vector.{Vector}
+use Rattle.lattice.specs.Vectors.{still, added}
 use Rattle.lattice.specs.declared.vector.Vector.{Vector as Account}
 
 abbrev pub obstacles : ℕ
@@ -15,11 +16,11 @@ accounts = 16
 
 -- an account of nothing
 abbrev pub none : Account
-none = record { along = pos 0; across = pos 0 }
+none = still
 
 -- an account after a push
 abbrev pub grown : Account → Vector → Account
-grown a v = record { along = a.along +ℤ v.along; across = a.across +ℤ v.across }
+grown a v = added a v
 
 -- account n, from 1, stands at place n - 1
 abbrev pub account_at : List Account → ℕ → Account

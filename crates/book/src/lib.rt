@@ -6,7 +6,7 @@ mod table;
 
 ghost use Rattle.std.specs.Prelude.{◌≡◌, ℕ, ◌≤◌, replicate, ◌+ℤ◌, FitsSigned};
 ghost use Rattle.std.specs.Int.{w64};
-ghost use Rattle.book.specs.Accounts.{none, grown, account_at, pushed, accounts as account_count};
+ghost use Rattle.book.specs.Accounts.{none, account_at, pushed, accounts as account_count};
 
 pub use account::Account;
 use lattice::Vector;
@@ -15,26 +15,13 @@ pub use table::Book;
 /// How many accounts there are.
 pub const ACCOUNTS: usize = 16;
 
-/// One push on one account.
-fn push(account: &mut Account, by: Vector)
-    requires { (FitsSigned w64 (account.old.along +ℤ by.along)) × (FitsSigned w64 (account.old.across +ℤ by.across)) }
-    ensures { account.new ≡ grown account.old by }
-{
-    account.along += by.along;
-    account.across += by.across;
-}
-
 impl Book {
     /// A book of nothing.
     pub fn new() -> Book
         ensures { result.accounts ≡ replicate account_count none }
     {
-        let nothing = Account {
-            along: 0,
-            across: 0,
-        };
         Book {
-            accounts: [nothing; 16],
+            accounts: [Account::default(); ACCOUNTS],
         }
     }
 
@@ -53,7 +40,6 @@ impl Book {
         requires across { FitsSigned w64 ((account_at self.old.accounts n).across +ℤ by.across) }
         ensures { self.new.accounts ≡ pushed self.old.accounts n by }
     {
-        let index = n - 1;
-        push(&mut self.accounts[index], by);
+        self.accounts[n - 1] += by;
     }
 }

@@ -6,5 +6,5 @@ mod role;
 mod state;
 
 pub use laws::{moves_decide, step_keeps, steps_keep};
-pub use role::{Role, role_of};
+pub use role::{HIGHEST_MAP_BYTE, Role};
 pub use state::State;

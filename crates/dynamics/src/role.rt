@@ -14,14 +14,15 @@ pub enum Role {
     Fan,
 }
 
-/// The role that a map byte gives.
-pub fn role_of(byte: u8) -> Role
-    ensures { result ≡ role_of byte }
-{
-    match byte {
-        0 => Role::Open,
-        1..=15 => Role::Wall(byte),
-        16 => Role::Fan,
-        _ => Role::Open,
+impl From<u8> for Role {
+    ghost from_gives = { λ byte role. role ≡ role_of byte };
+
+    /// The role that a map byte gives.
+    fn from(byte: u8) -> Role {
+        match byte {
+            1..=15 => Role::Wall(byte),
+            16 => Role::Fan,
+            _ => Role::Open,
+        }
     }
 }

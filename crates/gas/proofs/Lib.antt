@@ -1,4 +1,5 @@
 pub mod Bounds
 pub mod Tables
+pub mod StreamedRows
 pub mod Moves
 pub mod Arrivals

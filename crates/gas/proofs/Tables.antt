@@ -1,24 +1,16 @@
 -- Judging a list of entries: the first unsound place, and what it means that there is none.
-use Rattle.std.proofs.Common.{◌≡◌, ℕ, ◌+◌, ◌-◌, ◌*◌, ◌%◌, ◌<◌, max, Bool, true, false, not, ◌&&◌, ltb, List, length, get_or, ℤ, pos, negsuc, is_ok, Some, None, Ok, Err, Option, sym, refl, ap, ◌∙◌, subst, inl, inr, mod-eq_of_lt, one-mul, zero-add, zero-mul, arith}
+use Rattle.std.proofs.Common.{◌≡◌, ℕ, ◌+◌, ◌-◌, ◌*◌, ◌%◌, ◌<◌, ◌≤◌, max, Bool, true, false, not, ◌&&◌, ltb, List, length, get_or, is_ok, Some, None, Ok, Err, Option, sym, refl, ap, ◌∙◌, subst, inl, inr, mod-eq_of_lt, one-mul, zero-add, zero-mul, arith}
 use native.Mathlib.Nat.{add-mod_left}
 use Rattle.std.proofs.lemmas.Nat.{pow_pos}
 use Rattle.std.proofs.lemmas.Bool.{eqb-true, eq-eqb, ltb-true, lt-ltb, and_parts, cases_lt}
+use Rattle.std.specs.Option.{MatchOption}
+use Rattle.std.proofs.lemmas.Bool.Decides.{Decides-int_eq}
 use Rattle.gas.specs.declared.fault.TableFault.TheVariants.{Unsound}
 use Rattle.lattice.proofs.Firsts.{first-none, first_some, none_first}
 use Rattle.lattice.proofs.Vectors.{same_vector}
-use Rattle.gas.specs.Model.{GasModel, states, momentum, entry_place}
+use Rattle.gas.specs.Model.{GasModel, states, entry_place}
 use Rattle.gas.specs.Soundness.{SoundEntry, SoundTable}
-use Rattle.gas.specs.Judging.{same_number, sound_entry, sound_place, first_unsound, unless, table_judged, good_table, TakenIfSound}
-
-pub same_number_lem : (a b : ℤ) → same_number a b ≡ true → a ≡ b
-same_number_lem (pos a) (pos b) e = ap pos (eqb-true a b e)
-same_number_lem (pos a) (negsuc b) e = cc
-same_number_lem (negsuc a) (pos b) e = cc
-same_number_lem (negsuc a) (negsuc b) e = ap negsuc (eqb-true a b e)
-
-number_same : (a : ℤ) → same_number a a ≡ true
-number_same (pos a) = eq-eqb a a refl
-number_same (negsuc a) = eq-eqb a a refl
+use Rattle.gas.specs.Judging.{sound_entry, sound_place, first_unsound, unless, table_judged, good_table, TakenIfSound}
 
 both : (a b : Bool) → a ≡ true → b ≡ true → (a && b) ≡ true
 both a b p q = ap (λ (x : Bool). x && b) p ∙ q
@@ -32,24 +24,32 @@ entry_sound m s e good =
     record {
       below = ltb-true _ _ p.0;
       counted = eqb-true _ _ q.0;
-      balanced = same_vector _ _ (same_number_lem _ _ r.0) (same_number_lem _ _ r.1);
+      balanced = same_vector _ _ ((Decides-int_eq _ _).0 r.0) ((Decides-int_eq _ _).0 r.1);
     }
 
 sound_entry_lem : (m : GasModel) (s e : ℕ) → SoundEntry m s e → sound_entry m s e ≡ true
 sound_entry_lem m s e sound =
     both _ _ (lt-ltb _ _ sound.below)
     (both _ _ (eq-eqb _ _ sound.counted)
-    (both _ _ (subst (λ (z : ℤ). same_number (momentum m e).along z ≡ true) (ap (λ v. v.along) sound.balanced) (number_same (momentum m e).along))
-    (subst (λ (z : ℤ). same_number (momentum m e).across z ≡ true) (ap (λ v. v.across) sound.balanced) (number_same (momentum m e).across))))
+    (both _ _ ((Decides-int_eq _ _).1 (ap (λ v. v.along) sound.balanced)) ((Decides-int_eq _ _).1 (ap (λ v. v.across) sound.balanced))))
 
 module _ (m : GasModel) (t : List ℕ) where
   -- no place is unsound
-  pub judged_good : ((k : ℕ) → k < max (length t) (2 * states m) → sound_place m t k ≡ true) → table_judged m t ≡ Ok tt
+  judged_good : ((k : ℕ) → k < max (length t) (2 * states m) → sound_place m t k ≡ true) → table_judged m t ≡ Ok tt
   judged_good each = ap unless (first-none (max (length t) (2 * states m)) (λ k. not (sound_place m t k)) (λ k l. ap not (each k l)))
 
   -- place k is the first unsound one
-  pub judged_bad : (k : ℕ) → k < max (length t) (2 * states m) → sound_place m t k ≡ false → ((j : ℕ) → j < k → sound_place m t j ≡ true) → table_judged m t ≡ Err (Unsound k)
+  judged_bad : (k : ℕ) → k < max (length t) (2 * states m) → sound_place m t k ≡ false → ((j : ℕ) → j < k → sound_place m t j ≡ true) → table_judged m t ≡ Err (Unsound k)
   judged_bad k l here before = ap unless (first_some (max (length t) (2 * states m)) (λ j. not (sound_place m t j)) k l (ap not here) (λ j h. ap not (before j h)))
+
+  -- what a search for the first unsound place finds
+  pub judged_found : (n : ℕ) (r : Option ℕ) → n ≡ max (length t) (2 * states m)
+      → MatchOption r
+      ((k : ℕ) → 0 ≤ k → k < n → sound_place m t k ≡ true)
+      (λ i. (0 ≤ i) × (i < n) × (sound_place m t i ≡ false) × ((k : ℕ) → 0 ≤ k → k < i → sound_place m t k ≡ true))
+      → unless r ≡ table_judged m t
+  judged_found n (Some i) e found = sym (judged_bad i (omega (arith, e, found.1)) found.2 (λ j l. found.3 j (omega arith) l))
+  judged_found n None e found = sym (judged_good (λ k l. found k (omega arith) (omega (arith, e))))
 
   by_first : (o : Option ℕ) → unless o ≡ Ok tt → o ≡ None
   by_first None e = refl

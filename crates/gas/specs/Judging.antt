@@ -1,6 +1,7 @@
 -- How a list of entries is judged: it is taken if every place is sound, and otherwise the first unsound place is named.
 -- A missing or a surplus entry is unsound.
-use Rattle.std.specs.Prelude.{◌≡◌, ℕ, ◌*◌, ◌%◌, max, Bool, false, cond, not, ◌&&◌, List, length, ℤ, pos, negsuc, is_ok, Some, None, Ok, Err, Option, Result, ◌==◌, nat_lt, slice_index}
+use Rattle.std.specs.Prelude.{◌≡◌, ℕ, ◌*◌, ◌%◌, max, Bool, cond, not, ◌&&◌, List, length, ℤ, is_ok, Some, None, Ok, Err, Option, Result, ◌==◌, nat_lt, slice_index}
+use Rattle.std.specs.Ordering.{int_eq}
 use Rattle.lattice.specs.Firsts.{first}
 use Rattle.gas.specs.declared.fault.TableFault.{TableFault}
 use Rattle.gas.specs.declared.fault.TableFault.TheVariants.{Unsound}
@@ -8,10 +9,7 @@ use Rattle.gas.specs.Model.{GasModel, states, particles, momentum}
 use Rattle.gas.specs.Soundness.{SoundTable}
 
 abbrev pub same_number : ℤ → ℤ → Bool
-same_number (pos a) (pos b) = a == b
-same_number (pos a) (negsuc b) = false
-same_number (negsuc a) (pos b) = false
-same_number (negsuc a) (negsuc b) = a == b
+same_number = int_eq
 
 -- whether `outcome` is sound for `state`
 abbrev pub sound_entry : GasModel → ℕ → ℕ → Bool

@@ -3,6 +3,8 @@
 
 mod fault;
 mod laws;
+mod outcomes;
+mod rows;
 mod totals;
 
 ghost use Rattle.std.specs.Prelude.{◌≡◌, ℕ, ◌<◌, List};
@@ -15,6 +17,8 @@ ghost use Rattle.gas.specs.Streaming.{arriving as arriving_at, RowStreamed};
 pub use fault::TableFault;
 use lattice::{Grid, Vector, byte_at, held, state_where, states_of};
 pub use laws::taken_if_sound;
+pub use outcomes::outcome_in;
+pub use rows::row_fits;
 pub use totals::{Totals, field_totals};
 
 /// A lattice gas: what it is made of never changes, and the entries it holds are always sound.
@@ -57,43 +61,31 @@ pub trait Gas {
     fn particles(&self, state: u8) -> u8
         ensures { result ≡ particles_of (model self.now) state }
     {
-        let mut count = 0;
-        for channel in 0..self.channels() {
-            if held(state, channel) {
-                count += 1;
-            }
-        }
-        count
+        (0..self.channels())
+            .filter(|channel| held(state, *channel))
+            .count() as u8
     }
 
     /// The sum of the vectors of a state's particles.
     fn momentum(&self, state: u8) -> Vector
         ensures { result ≡ momentum_of (model self.now) state }
     {
-        let mut along = 0;
-        let mut across = 0;
+        let mut momentum = Vector::default();
         for channel in 0..self.channels() {
             if held(state, channel) {
-                let vector = self.vector(channel);
-                along += vector.along;
-                across += vector.across;
+                momentum += self.vector(channel);
             }
         }
-        Vector { along, across }
+        momentum
     }
 
     /// Whether a collision may turn `state` into `outcome`.
     fn is_sound(&self, state: u8, outcome: u8) -> bool
         ensures { result ≡ sound_entry (model self.now) state outcome }
     {
-        if outcome as usize >= states_of(self.channels())
-            || self.particles(outcome) != self.particles(state)
-        {
-            return false;
-        }
-        let before = self.momentum(state);
-        let after = self.momentum(outcome);
-        after.along == before.along && after.across == before.across
+        (outcome as usize) < states_of(self.channels())
+            && self.particles(outcome) == self.particles(state)
+            && self.momentum(outcome) == self.momentum(state)
     }
 
     /// Whether there is an entry at this place of a list, there should be one, and it is sound.
@@ -101,10 +93,9 @@ pub trait Gas {
         ensures { result ≡ sound_place (model self.now) list.now place }
     {
         let states = states_of(self.channels());
-        if place >= list.len() || place >= 2 * states {
-            return false;
-        }
-        self.is_sound((place % states) as u8, list[place])
+        place < list.len()
+            && place < 2 * states
+            && self.is_sound((place % states) as u8, list[place])
     }
 
     /// Judges a list of entries without taking it.
@@ -112,12 +103,10 @@ pub trait Gas {
         ensures { result ≡ table_judged (model self.now) list.now }
     {
         let places = list.len().max(2 * states_of(self.channels()));
-        for place in 0..places {
-            if !self.sound_place(list, place) {
-                return Err(TableFault::Unsound(place));
-            }
+        match (0..places).find(|place| !self.sound_place(list, *place)) {
+            Some(place) => Err(TableFault::Unsound(place)),
+            None => Ok(()),
         }
-        Ok(())
     }
 
     /// The state that streams into a cell.
@@ -139,12 +128,12 @@ pub trait Gas {
     fn stream_row(&self, grid: Grid, row: usize, from: &[u8], to: &mut [u8])
         ensures { RowStreamed (model self.now) grid.width grid.height row from.now to.old to.new }
     {
-        let width = grid.width() as usize;
-        if row >= grid.height() as usize || from.len() < grid.cells() || to.len() < width {
+        if !row_fits(grid, row, from, to) {
             return;
         }
-        for column in 0..width {
-            to[column] = self.arriving(grid, from, row * width + column);
+        let width = grid.width() as usize;
+        for (column, state) in to[..width].iter_mut().enumerate() {
+            *state = self.arriving(grid, from, row * width + column);
         }
     }
 

@@ -6,7 +6,7 @@ use super::Gas;
 use lattice::Vector;
 
 /// How many particles there are, and the sum of their vectors.
-#[derive(Clone, Copy)]
+#[derive(Clone, Copy, Default)]
 pub struct Totals {
     pub particles: u32,
     pub momentum: Vector,
@@ -18,17 +18,10 @@ pub fn field_totals<G: Gas>(gas: &G, field: &[u8]) -> Totals
     ensures particles { result.particles ≡ field_particles (G.model gas.now).channels field.now }
     ensures momentum { result.momentum ≡ field_momentum (G.model gas.now).channels (G.model gas.now).vector field.now }
 {
-    let mut particles: u32 = 0;
-    let mut along = 0;
-    let mut across = 0;
+    let mut totals = Totals::default();
     for state in field {
-        particles += u32::from(gas.particles(*state));
-        let momentum = gas.momentum(*state);
-        along += momentum.along;
-        across += momentum.across;
+        totals.particles += u32::from(gas.particles(*state));
+        totals.momentum += gas.momentum(*state);
     }
-    Totals {
-        particles,
-        momentum: Vector { along, across },
-    }
+    totals
 }

@@ -1,11 +1,11 @@
 -- The columns around a column, and what is gathered from them.
-use Rattle.std.proofs.Common.{◌≡◌, ℕ, ◌+◌, ◌-◌, ◌%◌, ◌^◌, ◌<◌, ◌≤◌, List, get_or, sym, refl, ap, ◌∙◌, ap₂, arith}
+use Rattle.std.proofs.Common.{◌≡◌, ℕ, zero, suc, ◌+◌, ◌-◌, ◌%◌, ◌^◌, ◌<◌, ◌≤◌, Bool, true, false, cond, eqb, List, get_or, sym, refl, ap, ◌∙◌, ap₂, arith}
 use lib.Bits.{bit_and}
 use Rattle.lattice.specs.declared.rows.Rows.{Rows}
 use Rattle.lattice.specs.Grids.{cell_at, onward, backward}
 use Rattle.lattice.specs.Sources.{rows_around, gathered}
 use Rattle.lattice.proofs.Making.{state_of-kept}
-use Rattle.lattice.proofs.Rings.{wrap_in, onward_next, backward_next}
+use Rattle.lattice.proofs.Rings.{wrap_in, backward_next}
 use Rattle.gas.specs.Model.{GasModel}
 use Rattle.gas.specs.Streaming.{arriving}
 use Rattle.gas.proofs.Arrivals.{gathered-arriving}
@@ -13,14 +13,22 @@ use Rattle.hexagonal.specs.Channels.{across, column_by, row_by}
 use Rattle.hexagonal.specs.Sources.{columns_around, sources, HexagonalChannels}
 use Rattle.hexagonal.specs.Lawful.{below_seven}
 
--- between the edges no column wraps
-pub columns_between : (w e c : ℕ) → e < 2 → 0 < c → c + 1 < w → record { west = c - 1; middle = c; east = c + 1; left = c + e - 1; right = c + e } ≡ columns_around w e c
-columns_between w e c p l h =
-    let west : c - 1 ≡ backward w c = sym (backward_next w c l (omega arith)) in
-    let east : c + 1 ≡ onward w c = sym (onward_next w c h) in
-    let left : c + e - 1 ≡ backward w (c + e) = sym (backward_next w (c + e) (omega arith) (omega arith)) in
-    let right : c + e ≡ (c + e) % w = sym (wrap_in (c + e) w (omega arith)) in
+-- in an even row the diagonals touch the column before and this one, in an odd row this one and the next
+pub columns_are : (odd : Bool) (w c : ℕ) → c < w
+    → record { west = backward w c; middle = c; east = onward w c; left = cond odd c (backward w c); right = cond odd (onward w c) c } ≡ columns_around w (cond odd 1 0) c
+columns_are false w c l =
+    let same : c + 0 ≡ c = omega arith in
+    let right = wrap_in c w l in
     cc
+columns_are true w c l =
+    let left : backward w (c + 1) ≡ c = backward_next w (c + 1) (omega arith) (omega arith) ∙ omega arith in
+    cc
+
+-- a remainder by 2 as a test
+pub shift_is : (e : ℕ) → e < 2 → cond (eqb e 1) 1 0 ≡ e
+shift_is zero l = refl
+shift_is (suc zero) l = refl
+shift_is (suc (suc e)) l = absurd (omega arith)
 
 -- a channel's source is the cell that lies the opposite way
 source_is : (w h c r q : ℕ) → q < 7 → get_or (sources (rows_around w h r) (columns_around w (r % 2) c)) q 0 ≡ cell_at w (column_by w (across q) c r) (row_by h (across q) r)

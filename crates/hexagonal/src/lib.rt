@@ -12,12 +12,15 @@ ghost use Rattle.hexagonal.specs.Hexagonal.{hexagonal};
 ghost use Rattle.hexagonal.specs.Lawful.{hexagonal_laws};
 ghost use Rattle.gas.proofs.Tables.{good_sound};
 
-use gas::{Gas, TableFault};
+use gas::{Gas, TableFault, outcome_in};
 use lattice::{Grid, Vector};
 pub use laws::house_rules_hold;
 use outcomes::HOUSE;
 pub use streaming::stream_hexagonal_row;
 pub use table::HexagonalGas;
+
+/// Where each channel leads: along the tunnel, and across it.
+const HEADINGS: [(i64, i64); 7] = [(2, 0), (1, 1), (-1, 1), (-2, 0), (-1, -1), (1, -1), (0, 0)];
 
 impl HexagonalGas {
     /// A hexagonal gas with the house rules.
@@ -73,36 +76,11 @@ impl Gas for HexagonalGas {
     }
 
     fn vector(&self, channel: u8) -> Vector {
-        match channel {
-            0 => Vector {
-                along: 2,
-                across: 0,
-            },
-            1 => Vector {
-                along: 1,
-                across: 1,
-            },
-            2 => Vector {
-                along: -1,
-                across: 1,
-            },
-            3 => Vector {
-                along: -2,
-                across: 0,
-            },
-            4 => Vector {
-                along: -1,
-                across: -1,
-            },
-            5 => Vector {
-                along: 1,
-                across: -1,
-            },
-            _ => Vector {
-                along: 0,
-                across: 0,
-            },
-        }
+        let (along, across) = HEADINGS
+            .get(usize::from(channel))
+            .copied()
+            .unwrap_or((0, 0));
+        Vector { along, across }
     }
 
     fn opposite(&self, channel: u8) -> u8 {
@@ -126,11 +104,7 @@ impl Gas for HexagonalGas {
     }
 
     fn collide(&self, twist: bool, state: u8) -> u8 {
-        if state >= 128 {
-            return state;
-        }
-        let half = if twist { 128 } else { 0 };
-        self.entries[half + state as usize]
+        outcome_in(&self.entries, twist, state)
     }
 
     fn load(&mut self, list: &[u8]) -> Result<(), TableFault> {

@@ -1,11 +1,12 @@
 // Streaming by rows, for every gas of the hexagonal lattice.
-ghost use Rattle.std.specs.Prelude.{◌≡◌, ℕ, ◌+◌, ◌<◌, ◌≤◌, length, bit_and, slice_index};
-ghost use Rattle.lattice.specs.Sources.{RowsWithin, gathered};
+ghost use Rattle.std.specs.Prelude.{◌≡◌, ℕ, ◌+◌, ◌<◌, ◌≤◌, length, cond, bit_and, slice_index};
+ghost use Rattle.lattice.specs.Sources.{gathered};
 ghost use Rattle.gas.specs.Model.{GasModel};
 ghost use Rattle.gas.specs.Streaming.{RowStreamed};
-ghost use Rattle.hexagonal.specs.Sources.{columns_around, sources, HexagonalChannels};
+ghost use Rattle.hexagonal.specs.Sources.{sources, HexagonalChannels};
 
-use lattice::{Grid, Rows, one_back, one_on, rows_around, states_of};
+use gas::row_fits;
+use lattice::{Grid, Rows, fill_ring, rows_around, states_of};
 
 /// A column, the next in its own row to both sides, and the two that touch it in the rows beside.
 #[derive(Clone, Copy)]
@@ -17,29 +18,16 @@ struct Columns {
     right: usize,
 }
 
-/// The columns around a column of a row so wide, the row being even or odd.
-fn columns_around(width: usize, odd: usize, column: usize) -> Columns
-    requires { (column < width) × (odd < 2) }
-    ensures { result ≡ columns_around width odd column }
+/// These three columns of a row, even or odd, with the two that touch the middle one in the rows beside.
+fn columns_around(odd: bool, west: usize, middle: usize, east: usize) -> Columns
+    ensures { result ≡ record { west = west; middle = middle; east = east; left = cond odd middle west; right = cond odd east middle } }
 {
-    let west = one_back(column, width);
-    let east = one_on(column, width);
-    if odd == 0 {
-        Columns {
-            west,
-            middle: column,
-            east,
-            left: west,
-            right: column,
-        }
-    } else {
-        Columns {
-            west,
-            middle: column,
-            east,
-            left: column,
-            right: east,
-        }
+    Columns {
+        west,
+        middle,
+        east,
+        left: if odd { middle } else { west },
+        right: if odd { east } else { middle },
     }
 }
 
@@ -58,37 +46,19 @@ fn gather(from: &[u8], rows: Rows, columns: Columns, mask: u8) -> u8
     ((from[rows.here + columns.middle] & 64) | southward) & mask
 }
 
-/// Streams a row so wide into the first places of `to`: the two edges by themselves, and what lies between in one loop.
-fn stream_columns(width: usize, rows: Rows, odd: usize, mask: u8, from: &[u8], to: &mut [u8])
-    requires size { (2 ≤ width) × ((odd < 2) × (width ≤ length to.old)) }
-    requires within { RowsWithin (length from.now) width rows }
-    ensures row { (c : ℕ) → c < width → slice_index to.new c ≡ bit_and (gathered 7 from.now (sources rows (columns_around width odd c))) mask }
-    ensures rest { (k : ℕ) → width ≤ k → slice_index to.new k ≡ slice_index to.old k }
-{
-    let last = width - 1;
-    to[0] = gather(from, rows, columns_around(width, odd, 0), mask);
-    for column in 1..last {
-        let columns = Columns {
-            west: column - 1,
-            middle: column,
-            east: column + 1,
-            left: column + odd - 1,
-            right: column + odd,
-        };
-        to[column] = gather(from, rows, columns, mask);
-    }
-    to[last] = gather(from, rows, columns_around(width, odd, last), mask);
-}
-
 /// Streams one row of the field `from` into `to`, for a gas of the first so many channels of the lattice.
 pub fn stream_hexagonal_row(grid: Grid, row: usize, from: &[u8], to: &mut [u8], channels: u8)
     requires { channels ≤ 7 }
     ensures { (m : GasModel) → HexagonalChannels channels m → RowStreamed m grid.width grid.height row from.now to.old to.new }
 {
-    let width = grid.width() as usize;
-    if row >= grid.height() as usize || from.len() < grid.cells() || to.len() < width {
+    if !row_fits(grid, row, from, to) {
         return;
     }
+    let rows = rows_around(grid, row);
     let mask = (states_of(channels) - 1) as u8;
-    stream_columns(width, rows_around(grid, row), row % 2, mask, from, to);
+    let odd = row % 2 == 1;
+    fill_ring(
+        &mut to[..grid.width() as usize],
+        |west, middle, east| gather(from, rows, columns_around(odd, west, middle, east), mask),
+    );
 }

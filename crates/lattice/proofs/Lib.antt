@@ -5,4 +5,5 @@ pub mod Firsts
 pub mod Rings
 pub mod Cells
 pub mod Vectors
+pub mod Counts
 pub mod Writes

@@ -5,12 +5,14 @@ mod fault;
 mod grid;
 mod grids;
 mod places;
+mod ring;
 mod rows;
 mod vector;
 
 pub use fault::GridFault;
 pub use grid::Grid;
 pub use places::{one_back, one_on};
+pub use ring::fill_ring;
 pub use rows::{Rows, rows_around};
 pub use vector::Vector;
 

@@ -9,9 +9,9 @@ ghost use Rattle.square.specs.Square.{square};
 ghost use Rattle.square.specs.Lawful.{square_laws};
 ghost use Rattle.gas.proofs.Tables.{good_sound};
 
-use gas::{Gas, TableFault};
-use lattice::{Grid, Vector, rows_around};
-use streaming::stream_columns;
+use gas::{Gas, TableFault, outcome_in, row_fits};
+use lattice::{Grid, Vector, fill_ring, rows_around};
+use streaming::gather;
 pub use table::SquareGas;
 
 /// Under each twist 5 and 10 become each other; the rest stay.
@@ -19,6 +19,9 @@ const HOUSE: [u8; 32] = [
     0, 1, 2, 3, 4, 10, 6, 7, 8, 9, 5, 11, 12, 13, 14, 15, 0, 1, 2, 3, 4, 10, 6, 7, 8, 9, 5, 11, 12,
     13, 14, 15,
 ];
+
+/// Where each channel leads: along the tunnel, and across it.
+const HEADINGS: [(i64, i64); 4] = [(1, 0), (0, 1), (-1, 0), (0, -1)];
 
 impl SquareGas {
     /// A square gas with the house rules.
@@ -47,28 +50,11 @@ impl Gas for SquareGas {
     }
 
     fn vector(&self, channel: u8) -> Vector {
-        match channel {
-            0 => Vector {
-                along: 1,
-                across: 0,
-            },
-            1 => Vector {
-                along: 0,
-                across: 1,
-            },
-            2 => Vector {
-                along: -1,
-                across: 0,
-            },
-            3 => Vector {
-                along: 0,
-                across: -1,
-            },
-            _ => Vector {
-                along: 0,
-                across: 0,
-            },
-        }
+        let (along, across) = HEADINGS
+            .get(usize::from(channel))
+            .copied()
+            .unwrap_or((0, 0));
+        Vector { along, across }
     }
 
     fn opposite(&self, channel: u8) -> u8 {
@@ -96,11 +82,7 @@ impl Gas for SquareGas {
     }
 
     fn collide(&self, twist: bool, state: u8) -> u8 {
-        if state >= 16 {
-            return state;
-        }
-        let half = if twist { 16 } else { 0 };
-        self.entries[half + state as usize]
+        outcome_in(&self.entries, twist, state)
     }
 
     fn load(&mut self, list: &[u8]) -> Result<(), TableFault> {
@@ -114,10 +96,13 @@ impl Gas for SquareGas {
     }
 
     fn stream_row(&self, grid: Grid, row: usize, from: &[u8], to: &mut [u8]) {
-        let width = grid.width() as usize;
-        if row >= grid.height() as usize || from.len() < grid.cells() || to.len() < width {
+        if !row_fits(grid, row, from, to) {
             return;
         }
-        stream_columns(width, rows_around(grid, row), from, to);
+        let rows = rows_around(grid, row);
+        fill_ring(
+            &mut to[..grid.width() as usize],
+            |west, column, east| gather(from, rows, west, column, east),
+        );
     }
 }

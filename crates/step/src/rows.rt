@@ -6,7 +6,7 @@ ghost use Rattle.step.specs.Scenes.{scene_of};
 ghost use Rattle.step.specs.Results.{AllCollided};
 
 use super::cell::collide_cell;
-use dynamics::{State, role_of};
+use dynamics::{Role, State};
 use gas::Gas;
 use twist::TwistSource;
 
@@ -32,7 +32,7 @@ pub fn row_pass<G: Gas, S: TwistSource>(
     let mut turned = 0;
     for column in 0..width {
         let twist = source.ask(state.steps, column as u32, row as u32);
-        let role = role_of(map[start + column]);
+        let role = Role::from(map[start + column]);
         let cell = collide_cell(&state.gas, role, acts, twist, field[start + column]);
         spare[column] = cell.state;
         if cell.turned {

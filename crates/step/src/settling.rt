@@ -5,7 +5,7 @@ ghost use Rattle.book.specs.Accounts.{none, fan_account, pushed};
 ghost use Rattle.step.specs.Settling.{Settled, Modest, NoWall};
 
 use book::Book;
-use dynamics::{Role, role_of};
+use dynamics::Role;
 use gas::Gas;
 use lattice::Vector;
 
@@ -37,7 +37,7 @@ fn is_clear(walls: &[u8]) -> bool
 {
     let mut clear = true;
     for byte in walls {
-        if let Role::Wall(_) = role_of(*byte) {
+        if let Role::Wall(_) = Role::from(*byte) {
             clear = false;
         }
     }
@@ -57,7 +57,7 @@ pub fn settle_walls<G: Gas>(gas: &G, map: &[u8], field: &[u8], book: &mut Book)
             continue;
         }
         for (offset, byte) in walls.iter().enumerate() {
-            if let Role::Wall(obstacle) = role_of(*byte) {
+            if let Role::Wall(obstacle) = Role::from(*byte) {
                 let push = twice(gas.momentum(field[start + offset]));
                 book.push(obstacle as usize, push);
             }

@@ -40,7 +40,7 @@ impl TwistSource for Parity {
     }
 
     fn set_mark(&mut self, offered: u32) -> Result<(), UnlawfulMark> {
-        if offered == 0 {
+        if self.is_lawful(offered) {
             Ok(())
         } else {
             Err(UnlawfulMark)

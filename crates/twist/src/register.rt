@@ -56,7 +56,7 @@ impl TwistSource for Register {
     }
 
     fn is_lawful(&self, offered: u32) -> bool {
-        offered >= 1 && offered <= 65535
+        (1..=65535).contains(&offered)
     }
 
     fn ask(&mut self, step: u32, column: u32, row: u32) -> bool {
@@ -70,7 +70,7 @@ impl TwistSource for Register {
     }
 
     fn set_mark(&mut self, offered: u32) -> Result<(), UnlawfulMark> {
-        if offered < 1 || offered > 65535 {
+        if !self.is_lawful(offered) {
             return Err(UnlawfulMark);
         }
         self.mark = offered;

@@ -1,25 +1,25 @@
-use Rattle.std.proofs.Common.{◌≡◌, ℕ, ◌^◌, sym, ap, ◌∙◌, arith, below_more}
-use Rattle.gas.specs.Model.{states}
-use Rattle.gas.proofs.Tables.{judged_good, judged_bad}
+-- The search over the places finds the first unsound one.
+use Rattle.std.proofs.Common.{◌≡◌, ℕ, ◌*◌, ◌^◌, max, true, false, length, sym, ap, ◌∙◌, rules}
+use borrow.Author.Tests.{tests}
+use Rattle.std.proofs.lemmas.Iterator.{first_from_Range}
+use Rattle.gas.specs.Judging.{sound_place, unless}
+use Rattle.gas.proofs.Tables.{judged_found}
 use Rattle.gas.proofs.Gas.first_unsound.Goals as goal
 
-pub states_of-requires : goal.states_of-requires
-states_of-requires g c =
-    let few = (g.met.Self.Gas.lawful c.args.self.now).few in
-    omega (arith, c.channels.ensures)
-
-pub returns-then-not-sound_place : goal.returns-then-not-sound_place
-returns-then-not-sound_place g c =
+pub returns-in-Some : goal.returns-in-Some
+returns-in-Some g c =
     let m = g.Self.Gas.model c.args.self.now in
-    let count : c.states_of.result ≡ states m = c.states_of.ensures ∙ ap (λ (q : ℕ). 2 ^ q) c.channels.ensures in
-    sym (judged_bad m c.args.list.now c.loop-place.place (omega (arith, c.max-places.ensures, count, c.loop-place-test.true))
-    (sym c.if-not-sound_place.ensures) c.loop-place.invariant)
+    let list = c.args.list.now in
+    let states-are = c.states_of.ensures ∙ ap (λ (q : ℕ). 2 ^ q) c.channels.ensures in
+    ap unless (sym c.in-Some.is)
+    ∙ judged_found m list _ _ (c.max-places.ensures ∙ ap (λ (n : ℕ). max (length list) (2 * n)) states-are)
+    (first_from_Range _ _ _ _ (λ k. sound_place m list k ≡ false) (λ k. sound_place m list k ≡ true) c.find.ensures.ran (λ x q k. search (rules, tests)) (λ x q k. search (rules, tests)))
 
-pub loop-place-preserved : goal.loop-place-preserved
-loop-place-preserved g c = below_more _ _ c.loop-place.invariant (sym c.if-not-sound_place.ensures)
-
-pub returns : goal.returns
-returns g c =
+pub returns-in-None : goal.returns-in-None
+returns-in-None g c =
     let m = g.Self.Gas.model c.args.self.now in
-    let count : c.states_of.result ≡ states m = c.states_of.ensures ∙ ap (λ (q : ℕ). 2 ^ q) c.channels.ensures in
-    sym (judged_good m c.args.list.now (λ k l. c.loop-place.invariant k (omega (arith, c.max-places.ensures, count, c.loop-place-test.false))))
+    let list = c.args.list.now in
+    let states-are = c.states_of.ensures ∙ ap (λ (q : ℕ). 2 ^ q) c.channels.ensures in
+    ap unless (sym c.in-None.is)
+    ∙ judged_found m list _ _ (c.max-places.ensures ∙ ap (λ (n : ℕ). max (length list) (2 * n)) states-are)
+    (first_from_Range _ _ _ _ (λ k. sound_place m list k ≡ false) (λ k. sound_place m list k ≡ true) c.find.ensures.ran (λ x q k. search (rules, tests)) (λ x q k. search (rules, tests)))

@@ -1,9 +1,8 @@
-use Rattle.std.proofs.Common.{◌≡◌, ℕ, ◌<◌, ◌≤◌, get_or}
+use Rattle.std.proofs.Common.{◌≡◌, ℕ, ◌<◌, get_or}
 use Rattle.lattice.specs.Grids.{cell_at}
 use Rattle.gas.specs.Streaming.{arriving}
 use Rattle.gas.proofs.Gas.stream_row.Given as goal
 
 abbrev pub invariant-loop-column : goal.invariant-loop-column
 invariant-loop-column g l =
-    ((c : ℕ) → c < l.column → get_or l.to c 0 ≡ arriving (g.Self.Gas.model l.self) l.grid.width l.grid.height l.from (cell_at l.grid.width c l.row))
-    × ((k : ℕ) → l.column ≤ k → get_or l.to k 0 ≡ get_or l.initial.to k 0)
+    (c : ℕ) → c < l.column → get_or l.state-items c 0 ≡ arriving (g.Self.Gas.model l.self) l.grid.width l.grid.height l.from (cell_at l.grid.width c l.row)

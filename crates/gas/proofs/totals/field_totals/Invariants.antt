@@ -6,6 +6,5 @@ use Rattle.gas.proofs.totals.field_totals.Given as goal
 
 abbrev pub invariant-loop-state : goal.invariant-loop-state
 invariant-loop-state g l =
-    (l.particles ≡ sum_n l.state-index (λ i. particles (g.G.Gas.model l.gas) (get_or l.field i 0)))
-    × (l.along ≡ (sum_v l.state-index (λ i. momentum (g.G.Gas.model l.gas) (get_or l.field i 0))).along)
-    × (l.across ≡ (sum_v l.state-index (λ i. momentum (g.G.Gas.model l.gas) (get_or l.field i 0))).across)
+    (l.totals.particles ≡ sum_n l.state-index (λ i. particles (g.G.Gas.model l.gas) (get_or l.field i 0)))
+    × (l.totals.momentum ≡ sum_v l.state-index (λ i. momentum (g.G.Gas.model l.gas) (get_or l.field i 0)))
