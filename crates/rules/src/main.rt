@@ -15,13 +15,9 @@ use std::io;
 fn staying<G: Gas>(gas: &G, twist: bool) -> usize
     ensures { result ≡ staying_of (G.model gas.now) (G.entries gas.now) twist }
 {
-    let mut count = 0;
-    for state in 0..states_of(gas.channels()) {
-        if gas.collide(twist, state as u8) as usize == state {
-            count += 1;
-        }
-    }
-    count
+    (0..states_of(gas.channels()))
+        .filter(|state| usize::from(gas.collide(twist, *state as u8)) == *state)
+        .count()
 }
 
 /// Prints the states that change under this twist, one in a line, and then how many stay.

@@ -1,31 +1,17 @@
-use Rattle.std.proofs.Common.{◌≡◌, ℕ, ◌^◌, Bool, eqb, sym, ap, ◌∙◌, arith}
-use Rattle.std.proofs.lemmas.Bool.{eq-eqb, ne_eqb}
-use Rattle.lattice.proofs.Sums.{sum_n_start, sum_n_more_yes, sum_n_more_no}
+-- The states that the chain keeps are those that are their own outcome.
+use Rattle.std.proofs.Common.{◌≡◌, ℕ, Bool, eqb, ap, ◌^◌, ◌∙◌, rules}
+use borrow.Author.Tests.{tests}
+use Rattle.std.proofs.lemmas.Iterator.{YieldsList-from_range}
+use Rattle.std.proofs.lemmas.Iterator.Consumers.{YieldsList-from_filter, count_from_yields_List, YieldsList-at}
 use Rattle.lattice.specs.Sums.{count_n}
+use Rattle.lattice.proofs.Counts.{length-filter-range}
 use Rattle.gas.specs.Model.{states, outcome}
 use Rattle.rules.proofs.staying.Goals as goal
-use Rattle.rules.proofs.staying.Goals.{then-collide-state, else-collide-state}
-
-pub loop-state-init : goal.loop-state-init
-loop-state-init g c = (omega arith, sum_n_start _)
-
-pub loop-state-preserved : goal.loop-state-preserved
-loop-state-preserved g c =
-    let stays : ℕ → Bool = λ n. eqb (outcome (g.G.Gas.model c.args.gas.now) (g.G.Gas.entries c.args.gas.now) c.args.twist n) n in
-    let n = c.loop-state.state in
-    elim c.if-collide-state.branch [
-      | then-collide-state w ↦ (
-        omega (arith, w.count-is, c.loop-state.invariant.0),
-        w.count-is ∙ sum_n_more_yes n stays (λ _. 1) c.loop-state.count c.loop-state.invariant.1 (eq-eqb _ _ (sym c.collide.ensures ∙ w.if-collide-state.true)),
-      )
-      | else-collide-state w ↦ (
-        omega (arith, w.count-is, c.loop-state.invariant.0),
-        w.count-is ∙ sum_n_more_no n stays (λ _. 1) c.loop-state.count c.loop-state.invariant.1 (ne_eqb _ _ (λ e. w.if-collide-state.false (c.collide.ensures ∙ e))),
-      )
-    ]
 
 pub returns : goal.returns
 returns g c =
     let m = g.G.Gas.model c.args.gas.now in
-    let end : c.loop-state.state ≡ states m = omega (arith, c.loop-state-test.false, c.states_of-state-end.ensures, ap (λ (q : ℕ). 2 ^ q) c.channels.ensures) in
-    c.loop-state.invariant.1 ∙ ap (λ (n : ℕ). count_n n (λ k. eqb (outcome m (g.G.Gas.entries c.args.gas.now) c.args.twist k) k)) end
+    let stays : ℕ → Bool = λ n. eqb (outcome m (g.G.Gas.entries c.args.gas.now) c.args.twist n) n in
+    count_from_yields_List c.filter.result _ c.count.ensures.ran
+    (YieldsList-from_filter _ stays (YieldsList-at c.filter.ensures.source (YieldsList-from_range 0 (states m) (states m) (search rules) (search rules))) c.filter.ensures.closure (λ x r q k. search (rules, tests)))
+    ∙ length-filter-range (states m) stays

@@ -39,7 +39,7 @@ loop-column-preserved g c =
     c.ask-twist.ensures.answer
     ∙ ap (λ (x : TwistModel). x.bit (g.S.TwistSource.mark c.loop-column.source) s.steps i row) inv.3
     ∙ ap (λ (x : ℕ). s.twist.bit x s.steps i row) inv.2 in
-    let role-is = c.role_of-role.ensures ∙ ap (λ (n : ℕ). role_of (get_or map (row * n + i) 0)) wide in
+    let role-is = c.from-role.ensures ∙ ap (λ (n : ℕ). role_of (get_or map (row * n + i) 0)) wide in
     let state-is : get_or field (row * c.width-width.result + i) 0 ≡ get_or field (row * s.width + i) 0 = ap (λ (n : ℕ). get_or field (row * n + i) 0) wide in
     let cell-is : c.collide_cell-cell.result ≡ cell i =
     c.collide_cell-cell.ensures ∙ (λ j. cell_after s.gas s.entries (c.fan_acts-acts.ensures j) (twist_is j) (role-is j) (state-is j)) in

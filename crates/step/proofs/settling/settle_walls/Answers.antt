@@ -99,7 +99,7 @@ loop-offset-preserved g c =
     let long : length (take (end - start) (drop start map)) ≡ end - start = simp (length-take, length-drop) (omega (arith, ends)) in
     let cell = cell_of map start end k (search rules) in
     let next : i + 1 ≡ start + (k + 1) = omega arith in
-    elim c.match-role_of.branch [
+    elim c.match-from.branch [
       | in-Wall w ↦
           let role = sym w.in-Wall.ensures in
           let byte = wall_byte (get_or (take (end - start) (drop start map)) k 0) w.in-Wall.obstacle role in
@@ -115,6 +115,6 @@ loop-offset-preserved g c =
         subst (λ (b : Book). length b.accounts ≡ 16) (sym w.book-is) c.loop-offset.invariant.0,
         subst (λ (b : Book). Settled m map field old b.accounts (start + (k + 1))) (sym w.book-is)
             (subst (Settled m map field old new) next
-            (settled_skip m map field old new i (λ n. ap (λ (b : ℕ). is_wall_of n (role_of b)) (sym cell) ∙ ap (is_wall_of n) (sym c.role_of.ensures) ∙ no_wall c.role_of.result w.in_default.not-Wall n) c.loop-offset.invariant.1)),
+            (settled_skip m map field old new i (λ n. ap (λ (b : ℕ). is_wall_of n (role_of b)) (sym cell) ∙ ap (is_wall_of n) (sym c.from.ensures) ∙ no_wall c.from.result w.in_default.not-Wall n) c.loop-offset.invariant.1)),
       )
     ]
