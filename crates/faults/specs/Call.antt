@@ -1,6 +1,6 @@
 -- The faults of a call: the buffers and arguments that it was handed.
 -- Those of its own are of layer 3; a fault of a layer below comes up whole, with that layer's numbers.
-use Rattle.std.specs.Prelude.{ℕ}
+use Rattle.std.specs.Prelude.{ℕ, List, ◌++◌, codes, decimal}
 use Rattle.faults.specs.declared.call.CallFault.{CallFault}
 use Rattle.faults.specs.declared.call.CallFault.TheVariants.{Job, ShortMap, ShortField, ShortSpare, MapByte, FieldByte, Argument, TooManySteps, ShortOutput}
 use Rattle.faults.specs.Job.{job_number, job_layer, job_record, job_offset}
@@ -52,3 +52,8 @@ offset (FieldByte o) = o
 offset (Argument p) = p
 offset TooManySteps = 0
 offset ShortOutput = 0
+
+-- how a refusal is printed: `refused`, and then the fault's number, layer, record and offset
+abbrev pub refusal : CallFault → List ℕ
+refusal f =
+    codes "refused " ++ (decimal (number f) ++ (codes " " ++ (decimal (layer f) ++ (codes " " ++ (decimal (record_of f) ++ (codes " " ++ decimal (offset f)))))))

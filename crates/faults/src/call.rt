@@ -1,12 +1,13 @@
 // The call layer: buffers and arguments.
-ghost use Rattle.std.specs.Prelude.{◌≡◌};
+ghost use Rattle.std.specs.Prelude.{◌≡◌, Some};
 ghost use Rattle.faults.specs.declared.call.CallFault.TheVariants.{Job};
-ghost use Rattle.faults.specs.Call.{number as number_of, layer as layer_of, record_of, offset as offset_of};
+ghost use Rattle.faults.specs.Call.{number as number_of, layer as layer_of, record_of, offset as offset_of, refusal};
 
 use super::job::JobFault;
+use std::fmt;
 
 /// Why a call was refused.
-#[derive(Clone, Copy, Debug, PartialEq)]
+#[derive(Clone, Copy, Debug, PartialEq, Eq, Hash)]
 pub enum CallFault {
     Job(JobFault),
     /// The map is shorter than the grid.
@@ -32,6 +33,19 @@ impl From<JobFault> for CallFault {
 
     fn from(fault: JobFault) -> CallFault {
         CallFault::Job(fault)
+    }
+}
+
+/// `refused`, and then the fault's number, layer, record and offset.
+impl fmt::Display for CallFault {
+    ghost output = { λ fault. Some (refusal fault) };
+
+    fn fmt<W: fmt::Write>(&self, f: &mut fmt::Formatter<W>) -> fmt::Result {
+        let number = self.number();
+        let layer = self.layer();
+        let record = self.record();
+        let offset = self.offset();
+        write!(f, "refused {number} {layer} {record} {offset}")
     }
 }
 

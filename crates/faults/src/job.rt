@@ -6,7 +6,7 @@ ghost use Rattle.faults.specs.Job.{job_number, job_layer, job_record, job_offset
 use super::record::RecordFault;
 
 /// What is wrong with a job's payloads; the first number is the record's, the second the offset in its payload.
-#[derive(Clone, Copy, Debug, PartialEq)]
+#[derive(Clone, Copy, Debug, PartialEq, Eq, Hash)]
 pub enum JobFault {
     Record(RecordFault),
     /// The payload's length is wrong.

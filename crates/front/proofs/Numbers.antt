@@ -1,12 +1,14 @@
 -- The number whose decimal text a text is.
-use Rattle.std.proofs.Common.{◌≡◌, ℕ, ◌+◌, ◌^◌, ◌<◌, ◌≤◌, Bool, true, false, ◌&&◌, eqb, leb, ◌⊎◌, List, [], ◌∷◌, length, get_or, Some, None, decimal, sym, refl, ap, ◌∙◌, subst, inl, inr, arith}
-use Rattle.std.specs.Str.{all_ascii_digits}
+use Rattle.std.proofs.Common.{◌≡◌, ℕ, ◌+◌, ◌^◌, ◌<◌, ◌≤◌, Bool, true, false, ◌&&◌, eqb, leb, List, [], ◌∷◌, length, get_or, Some, None, Ok, Err, Result, decimal, sym, refl, ap, ◌∙◌, subst, inl, inr, arith}
+use Rattle.std.specs.Int.{IsInRange}
+use Rattle.std.specs.Str.{IsUtf8}
+use Rattle.std.specs.Str.Parse.{AllDigits, digits_value, ParsesUnsigned}
 use Rattle.std.proofs.lemmas.Bool.{eqb-true, eq-eqb, le-leb, leb-true, and_parts, cases_lt, true≢false}
-use Rattle.std.proofs.lemmas.Fmt.{decimal_digit, decimal_nonempty, length-decimal-le, first_decimal, digits_decimal, digits_value-decimal, decimal_injective, decimal-digits_value}
+use Rattle.std.proofs.lemmas.Fmt.{decimal_digit, decimal_nonempty, decimal_is_IsNumeral, first_decimal, decimal_injective, decimal-digits_value, parse-decimal, IsAscii-decimal}
+use Rattle.std.proofs.lemmas.Str.{IsUtf8-from_ascii}
+use Rattle.std.proofs.lemmas.Str.Parse.{IsNumeralModel, numerals_by_value, tells_digits, digit_at, parse_plain}
 use Rattle.lattice.proofs.Firsts.{first-none, first_some}
 use Rattle.front.specs.Numbers.{same_bytes, number_up_to}
-use Rattle.front.specs.Digits.{digits_value}
-use Rattle.front.proofs.Digits.{own}
 
 pub same_bytes_lem : (xs ys : List ℕ) → same_bytes xs ys ≡ true → xs ≡ ys
 same_bytes_lem [] [] e = refl
@@ -43,33 +45,52 @@ some_up_to most text v fits low high is =
     let s : j ≡ v = decimal_injective j v (omega arith) (omega arith) (sym (same_bytes_lem text (decimal j) p.1) ∙ is) in
     omega arith))
 
-module _ (most : ℕ) (small : most < 100000) (text : List ℕ) where
+-- a text of digits that begins with no sign and no zero
+own : IsNumeralModel (AllDigits 10) (digits_value 10)
+own = numerals_by_value (AllDigits 10) tells_digits
+
+module _ (most : ℕ) (small : most < 2 ^ 32) (text : List ℕ) where
   pub empty_none : length text ≡ 0 → number_up_to most text ≡ None
-  empty_none e = none_up_to most text (λ k low high is. omega (arith, ap length is, decimal_nonempty k (omega arith)))
+  empty_none e = none_up_to most text (λ k low high is. omega (arith, e, ap length is, decimal_nonempty k (omega (arith, high, small))))
 
-  pub long_none : 5 < length text → number_up_to most text ≡ None
-  long_none l = none_up_to most text (λ k low high is. omega (arith, ap length is, length-decimal-le 5 k (omega arith) (omega arith) (omega arith)))
+  -- a decimal text begins with a digit from 1 to 9
+  pub stray_none : (IsInRange 49 57 (get_or text 0 0) → ⊥) → number_up_to most text ≡ None
+  stray_none outside = none_up_to most text (λ k low high is.
+      let fits : k < 2 ^ 64 = omega (arith, high, small) in
+      let digit = digit_at (decimal k) 0 (decimal_is_IsNumeral k fits).0.1 (decimal_nonempty k fits) in
+      let same : get_or text 0 0 ≡ get_or (decimal k) 0 0 = ap (λ (t : List ℕ). get_or t 0 0) is in
+      outside (omega (arith, first_decimal k (omega (arith, low)) fits, same), omega (arith, digit.1, same)))
 
-  pub zero_none : get_or text 0 0 ≡ 48 → number_up_to most text ≡ None
-  zero_none z = none_up_to most text (λ k low high is. omega (arith, ap (λ (t : List ℕ). get_or t 0 0) is, first_decimal k (omega arith) (omega arith)))
+  pub no_text_none : (IsUtf8 text → ⊥) → number_up_to most text ≡ None
+  no_text_none foreign = none_up_to most text (λ k low high is. foreign (subst IsUtf8 (sym is) (IsUtf8-from_ascii (decimal k) (IsAscii-decimal k (omega (arith, high, small))))))
 
-  pub stray_none : all_ascii_digits text ≡ false → number_up_to most text ≡ None
-  stray_none f = none_up_to most text (λ k low high is. true≢false (sym (digits_decimal own k (omega arith)) ∙ ap all_ascii_digits (sym is) ∙ f))
+  module _ (E : Type 0) where
+    -- what is read of a number's text is the number
+    read : (r : Result ℕ E) → ParsesUnsigned 32 10 text r → (k : ℕ) → k ≤ most → text ≡ decimal k → r ≡ Ok k
+    read r parsed k high is = parse-decimal 32 k text r (omega (arith, high, small)) (omega (arith, high, small)) is parsed
 
-  pub large_none : most < digits_value text → number_up_to most text ≡ None
-  large_none l = none_up_to most text (λ k low high is. omega (arith, ap digits_value is, digits_value-decimal own k (omega arith)))
+    pub unread_none : (e : E) → ParsesUnsigned 32 10 text (Err e) → number_up_to most text ≡ None
+    unread_none e parsed = none_up_to most text (λ k low high is. let z : ◌≡◌ {A = ℕ} 0 1 = cc (read (Err e) parsed k high is) in omega (arith, z))
 
-  pub one_or_more : all_ascii_digits text ≡ true → 0 < length text → (get_or text 0 0 ≡ 48 → ⊥) → digits_value text ≤ most → 1 ≤ digits_value text
-  one_or_more digits some nonzero fits = by_size (cases_lt (digits_value text) 1)
-    where
-      by_size : (digits_value text < 1) ⊎ (1 ≤ digits_value text) → 1 ≤ digits_value text
-      by_size (inr h) = h
-      by_size (inl h) =
-          let z : digits_value text ≡ 0 = omega arith in
-          let is = decimal-digits_value own text digits some (λ z. absurd (nonzero z)) (omega arith) in
-          absurd (nonzero (ap (λ (t : List ℕ). get_or t 0 0) (sym is ∙ ap decimal z ∙ decimal_digit 0 (omega arith))))
+    module _ (v : ℕ) (parsed : ParsesUnsigned {E = E} 32 10 text (Ok v)) where
+      pub large_none : most < v → number_up_to most text ≡ None
+      large_none over = none_up_to most text (λ k low high is. let same : v ≡ k = cc (read (Ok v) parsed k high is) in omega (arith, over, high, same))
 
-  pub some_number : all_ascii_digits text ≡ true → 0 < length text → (get_or text 0 0 ≡ 48 → ⊥) → digits_value text ≤ most → number_up_to most text ≡ Some (digits_value text)
-  some_number digits some nonzero fits =
-      let is = decimal-digits_value own text digits some (λ z. absurd (nonzero z)) (omega arith) in
-      some_up_to most text (digits_value text) (omega arith) (one_or_more digits some nonzero fits) fits (sym is)
+      module _ (first : IsInRange 49 57 (get_or text 0 0)) where
+        written : text ≡ decimal v
+        written =
+            let p = parse_plain own {E = E} 32 text (Ok v) parsed (λ e. omega (arith, first.0, e)) in
+            sym (ap decimal p.1 ∙ decimal-digits_value own text p.0.0 p.0.1 (λ z. absurd (omega (arith, first.0, z))) (omega (arith, p.0.2)))
+
+        pub one_or_more : 1 ≤ v
+        one_or_more =
+            elim (cases_lt v 1) [
+              | inl none ↦
+                  let zero : v ≡ 0 = omega (arith, none) in
+                  let z : get_or text 0 0 ≡ 48 = ap (λ (t : List ℕ). get_or t 0 0) (written ∙ ap decimal zero ∙ decimal_digit 0 (omega arith)) in
+                  absurd (omega (arith, first.0, z))
+              | inr some ↦ some
+            ]
+
+        pub some_number : v ≤ most → number_up_to most text ≡ Some v
+        some_number fits = some_up_to most text v (omega (arith, small)) one_or_more fits written

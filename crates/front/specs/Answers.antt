@@ -1,5 +1,5 @@
 -- What the program answers to its input: the refusal of the first line or of the file's records, or how many records it judged.
-use Rattle.std.specs.Prelude.{ℕ, ◌+◌, List, drop, Ok, Err, Result}
+use Rattle.std.specs.Prelude.{ℕ, ◌+◌, List, Ok, Err, Result}
 use Rattle.faults.specs.declared.record.RecordFault.{RecordFault}
 use Rattle.faults.specs.declared.job.JobFault.{JobFault}
 use Rattle.faults.specs.declared.job.JobFault.TheVariants.{Record}
@@ -24,12 +24,12 @@ abbrev pub passed_up : Result ℕ JobFault → Result ℕ CallFault
 passed_up (Ok n) = Ok n
 passed_up (Err f) = Err (Job f)
 
-abbrev pub judged_from : List ℕ → Result FirstLine CallFault → Result ℕ CallFault
-judged_from input (Err f) = Err f
-judged_from input (Ok line) = passed_up (records_in (drop line.file_start input))
+abbrev pub judged_from : Result (FirstLine × List ℕ) CallFault → Result ℕ CallFault
+judged_from (Err f) = Err f
+judged_from (Ok (line, file)) = passed_up (records_in file)
 
 abbrev pub judged : List ℕ → Result ℕ CallFault
-judged input = judged_from input (first_line input)
+judged input = judged_from (first_line input)
 
 abbrev pub line_for : Result ℕ CallFault → List ℕ
 line_for (Ok n) = records_line n

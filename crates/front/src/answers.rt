@@ -20,9 +20,8 @@ fn judge_records(file: &[u8]) -> Result<usize, JobFault>
 fn judge(input: &[u8]) -> Result<usize, CallFault>
     ensures { result ≡ judged input.now }
 {
-    let line = read_first_line(input)?;
-    let start = line.file_start;
-    let count = judge_records(&input[start..])?;
+    let (_, file) = read_first_line(input)?;
+    let count = judge_records(file)?;
     Ok(count)
 }
 

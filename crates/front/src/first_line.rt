@@ -1,7 +1,6 @@
 // The first line: how many steps, and how wide the patches are.
-ghost use Rattle.std.specs.Prelude.{◌≡◌, ℕ, ◌≤◌, length, IfOk};
-ghost use Rattle.front.specs.FirstLine.{place_of, before as before_place, behind as behind_place, first_line};
-ghost use Rattle.front.specs.Places.{Within};
+ghost use Rattle.std.specs.Prelude.{◌≡◌, ℕ, ◌≤◌, Some, None, Ok, Err, IfOk, MatchOption, MatchResult};
+ghost use Rattle.front.specs.FirstLine.{place_of, before, rest_behind, first_line};
 
 use super::number::number_up_to;
 use faults::CallFault;
@@ -10,71 +9,42 @@ const MOST_STEPS: u32 = 65_535;
 
 const WIDEST_PATCH: u32 = 64;
 
-/// What the first line asks for, and where the job file begins.
-#[derive(Clone, Copy)]
+/// What the first line asks for.
+#[derive(Clone, Copy, Debug, PartialEq, Eq, Hash)]
 pub struct FirstLine {
     pub steps: u32,
     pub patch: u32,
-    pub file_start: usize,
 }
 
 /// Where the byte stands first.
 fn place_of(byte: u8, bytes: &[u8]) -> Option<usize>
-    ensures value { result ≡ place_of byte bytes.now }
-    ensures within { Within result bytes.now }
+    ensures { result ≡ place_of byte bytes.now }
 {
-    for (place, here) in bytes.iter().enumerate() {
-        if *here == byte {
-            return Some(place);
-        }
-    }
-    None
+    bytes.iter().position(|here| *here == byte)
 }
 
-/// What stands before the place, or all.
-fn before(place: Option<usize>, bytes: &[u8]) -> &[u8]
-    requires { Within place bytes.now }
-    ensures { result.now ≡ before_place place bytes.now }
+/// What stands before the first such byte, or all; and what stands behind it, if there is one.
+fn parted(byte: u8, bytes: &[u8]) -> (&[u8], Option<&[u8]>)
+    ensures before { result.0.now ≡ before (place_of byte bytes.now) bytes.now }
+    ensures behind { MatchOption result.1 (rest_behind (place_of byte bytes.now) bytes.now ≡ None) (λ rest. rest_behind (place_of byte bytes.now) bytes.now ≡ Some rest.now) }
 {
-    match place {
-        None => bytes,
-        Some(place) => &bytes[0..place],
+    match place_of(byte, bytes) {
+        Some(place) => (&bytes[..place], Some(&bytes[place + 1..])),
+        None => (bytes, None),
     }
 }
 
-/// What stands behind the place, or nothing.
-fn behind(place: Option<usize>, bytes: &[u8]) -> &[u8]
-    requires { Within place bytes.now }
-    ensures { result.now ≡ behind_place place bytes.now }
+/// Judges the first line of the program's input, and hands on the job file behind it.
+pub fn read_first_line(input: &[u8]) -> Result<(FirstLine, &[u8]), CallFault>
+    ensures answer { MatchResult result (λ read. first_line input.now ≡ Ok (read.0, read.1.now)) (λ fault. first_line input.now ≡ Err fault) }
+    ensures some { IfOk result (λ read. 1 ≤ read.0.steps) }
+    ensures few { IfOk result (λ read. read.0.steps ≤ 65535) }
 {
-    match place {
-        None => &bytes[0..0],
-        Some(place) => &bytes[place + 1..],
-    }
-}
-
-/// Judges the first line of the program's input.
-pub fn read_first_line(input: &[u8]) -> Result<FirstLine, CallFault>
-    ensures answer { result ≡ first_line input.now }
-    ensures within { IfOk result (λ line. line.file_start ≤ length input.now) }
-    ensures some { IfOk result (λ line. 1 ≤ line.steps) }
-    ensures few { IfOk result (λ line. line.steps ≤ 65535) }
-{
-    let end = place_of(b'\n', input);
-    let line = before(end, input);
-    let blank = place_of(b' ', line);
-    let Some(steps) = number_up_to(MOST_STEPS, before(blank, line)) else {
-        return Err(CallFault::Argument(1));
-    };
-    let Some(patch) = number_up_to(WIDEST_PATCH, behind(blank, line)) else {
-        return Err(CallFault::Argument(2));
-    };
-    let Some(end) = end else {
-        return Err(CallFault::Argument(2));
-    };
-    Ok(FirstLine {
-        steps,
-        patch,
-        file_start: end + 1,
-    })
+    let (line, file) = parted(b'\n', input);
+    let (steps_text, patch_text) = parted(b' ', line);
+    let steps = number_up_to(MOST_STEPS, steps_text).ok_or(CallFault::Argument(1))?;
+    let patch_text = patch_text.unwrap_or(&[]);
+    let patch = number_up_to(WIDEST_PATCH, patch_text).ok_or(CallFault::Argument(2))?;
+    let file = file.ok_or(CallFault::Argument(2))?;
+    Ok((FirstLine { steps, patch }, file))
 }

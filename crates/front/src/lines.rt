@@ -9,11 +9,7 @@ use std::alloc::{AllocError, Global};
 pub fn refused_line(heap: Global, fault: &CallFault) -> Result<String, AllocError>
     ensures { IfOk result (λ line. string_bytes line ≡ refused_line fault.now) }
 {
-    let number = fault.number();
-    let layer = fault.layer();
-    let record = fault.record();
-    let offset = fault.offset();
-    format!(in heap; "refused {number} {layer} {record} {offset}\n")
+    format!(in heap; "{fault}\n")
 }
 
 /// The line that tells how many records were judged.

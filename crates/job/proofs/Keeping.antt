@@ -1,10 +1,9 @@
 -- No fault is found in payloads exactly if they keep the rules.
-use Rattle.std.proofs.Common.{◌≡◌, ℕ, ◌*◌, ◌<◌, ◌≤◌, Bool, true, false, not, ltb, leb, List, length, get_or, nat_abs, Some, None, Ok, Err, Option, Result, sym, refl, ap, ◌∙◌, arith}
+use Rattle.std.proofs.Common.{◌≡◌, ℕ, ◌*◌, Bool, true, false, not, ltb, leb, List, length, nat_abs, position, Some, None, Ok, Err, Option, Result, sym, refl, ap, ◌∙◌, arith}
 use Rattle.std.proofs.lemmas.Bool.{ltb-false, leb-false, eqb-true, eq-eqb, le-ltb, lt-leb}
 use Rattle.std.proofs.lemmas.Bool.Decides.{nat_tests}
 use Rattle.lattice.specs.declared.fault.GridFault.{GridFault}
 use Rattle.lattice.specs.declared.fault.GridFault.TheVariants.{Width, Height, Area}
-use Rattle.lattice.specs.Firsts.{first}
 use Rattle.lattice.specs.Grids.{Lawful, judged}
 use Rattle.lattice.proofs.Firsts.{first-none, none_first}
 use Rattle.gas.specs.Model.{GasModel, states}
@@ -22,6 +21,7 @@ use Rattle.job.specs.Books.{book_length, number_of}
 use Rattle.job.specs.Grounds.{or_then, fault_if, fault_at, length_fault, kinds_fault, grid_fault, limits_fault, mark_fault, head_fault, rules_fault, book_fault, longest_period, step_limit}
 use Rattle.job.specs.Jobs.{bytes_at, head_in, cells_in, payloads_fault}
 use Rattle.job.specs.Keeps.{HeadKeeps, Stretch, BookKeeps, Keeps}
+use Rattle.job.proofs.Positions.{none_passes, passes_none}
 use Rattle.job.proofs.NoFaults.{pass, both_none, whole_none}
 
 none_if : (b : Bool) (f : JobFault) → fault_if b f ≡ None → b ≡ false
@@ -76,26 +76,16 @@ head_keeps gas twist r h kinds limits mark =
       mark = not_false _ (none_if _ _ mark);
     }
 
--- stretches of bytes, both ways
-above_none : (r : ℕ) (f : ℕ → JobFault) (n limit : ℕ) (bytes : List ℕ) → or_then (length_fault r n bytes) (fault_at f (first (length bytes) (λ i. ltb limit (get_or bytes i 0)))) ≡ None → Stretch n (λ b. b ≤ limit) bytes
-above_none r f n limit bytes e =
-    let p = both_none _ _ e in
-    let long = whole r n bytes p.0 in
-    record { long = long; each = λ i l. ltb-false _ _ (none_first (length bytes) (λ k. ltb limit (get_or bytes k 0)) (none_at_all f _ p.1) i (omega arith)) }
+-- stretches of bytes, both ways: each byte passes where none is found that does not
+found_none : (r n : ℕ) (f : ℕ → JobFault) (p : ℕ → Bool) (bytes : List ℕ) → or_then (length_fault r n bytes) (fault_at f (position p bytes)) ≡ None → Stretch n (λ b. p b ≡ false) bytes
+found_none r n f p bytes e =
+    let parts = both_none _ _ e in
+    let long = whole r n bytes parts.0 in
+    record { long = long; each = λ i l. none_passes p bytes (none_at_all f _ parts.1) i (omega arith) }
 
-from_none : (r : ℕ) (f : ℕ → JobFault) (n limit : ℕ) (bytes : List ℕ) → or_then (length_fault r n bytes) (fault_at f (first (length bytes) (λ i. leb limit (get_or bytes i 0)))) ≡ None → Stretch n (λ b. b < limit) bytes
-from_none r f n limit bytes e =
-    let p = both_none _ _ e in
-    let long = whole r n bytes p.0 in
-    record { long = long; each = λ i l. leb-false _ _ (none_first (length bytes) (λ k. leb limit (get_or bytes k 0)) (none_at_all f _ p.1) i (omega arith)) }
-
-none_above : (r : ℕ) (f : ℕ → JobFault) (n limit : ℕ) (bytes : List ℕ) → Stretch n (λ b. b ≤ limit) bytes → or_then (length_fault r n bytes) (fault_at f (first (length bytes) (λ i. ltb limit (get_or bytes i 0)))) ≡ None
-none_above r f n limit bytes s =
-    pass _ _ (whole_none r n bytes s.long) ∙ ap (fault_at f) (first-none (length bytes) (λ k. ltb limit (get_or bytes k 0)) (λ i l. le-ltb _ _ (s.each i (omega (arith, s.long)))))
-
-none_from : (r : ℕ) (f : ℕ → JobFault) (n limit : ℕ) (bytes : List ℕ) → Stretch n (λ b. b < limit) bytes → or_then (length_fault r n bytes) (fault_at f (first (length bytes) (λ i. leb limit (get_or bytes i 0)))) ≡ None
-none_from r f n limit bytes s =
-    pass _ _ (whole_none r n bytes s.long) ∙ ap (fault_at f) (first-none (length bytes) (λ k. leb limit (get_or bytes k 0)) (λ i l. lt-leb _ _ (s.each i (omega (arith, s.long)))))
+none_found : (r n : ℕ) (f : ℕ → JobFault) (p : ℕ → Bool) (bytes : List ℕ) → Stretch n (λ b. p b ≡ false) bytes → or_then (length_fault r n bytes) (fault_at f (position p bytes)) ≡ None
+none_found r n f p bytes s =
+    pass _ _ (whole_none r n bytes s.long) ∙ ap (fault_at f) (passes_none p bytes (λ i l. s.each i (omega (arith, s.long))))
 
 -- rules, both ways
 unless-none : (o : Option ℕ) → o ≡ None → unless o ≡ Ok tt
@@ -142,8 +132,8 @@ keeps gas twist ps e =
       head_long = whole _ head_length _ h.0;
       head = head_keeps gas twist _ (head_in ps) i.0 j.0 j.1;
       rules = rules_keep gas _ _ b.0;
-      map = above_none _ _ (cells_in ps) highest_map_byte (bytes_at 2 ps) c.0;
-      field = from_none _ _ (cells_in ps) (states gas) (bytes_at 3 ps) d.0;
+      map = let s = found_none _ (cells_in ps) _ (λ b. ltb highest_map_byte b) (bytes_at 2 ps) c.0 in record { long = s.long; each = λ i l. ltb-false _ _ (s.each i l) };
+      field = let s = found_none _ (cells_in ps) _ (λ b. leb (states gas) b) (bytes_at 3 ps) d.0 in record { long = s.long; each = λ i l. leb-false _ _ (s.each i l) };
       book = book_keeps (head_in ps).steps _ (bytes_at 4 ps) f.0;
       end = whole _ 0 _ f.1;
     }
@@ -162,7 +152,7 @@ pub keeps_none : (gas : GasModel) (twist : TwistModel) (ps : List (ℕ × List �
 keeps_none gas twist ps k =
     pass _ _ (head_none gas twist _ (bytes_at 0 ps) k.head_long k.head)
     ∙ (pass _ _ (keep_rules gas _ (bytes_at 1 ps) k.rules)
-    ∙ (pass _ _ (none_above _ _ (cells_in ps) highest_map_byte (bytes_at 2 ps) k.map)
-    ∙ (pass _ _ (none_from _ _ (cells_in ps) (states gas) (bytes_at 3 ps) k.field)
+    ∙ (pass _ _ (none_found _ (cells_in ps) _ (λ b. ltb highest_map_byte b) (bytes_at 2 ps) (record { long = k.map.long; each = λ i l. le-ltb _ _ (k.map.each i l) }))
+    ∙ (pass _ _ (none_found _ (cells_in ps) _ (λ b. leb (states gas) b) (bytes_at 3 ps) (record { long = k.field.long; each = λ i l. lt-leb _ _ (k.field.each i l) }))
     ∙ (pass _ _ (keep_book (head_in ps).steps _ (bytes_at 4 ps) k.book)
     ∙ whole_none _ 0 (bytes_at 5 ps) k.end))))

@@ -1,4 +1,6 @@
 pub mod Numbers
+pub mod Positions
+pub mod Made
 pub mod NoFaults
 pub mod Keeping
 pub mod Readings

@@ -31,20 +31,16 @@ judged_some A P (Some k) f h = cc
 pub passed : {A : Type 0} (P : A → Type 0) (o : Option JobFault) (f : JobFault) (r : Result A JobFault) → o ≡ Some f → IsErrAnd r (λ y. y ≡ f) → Judged o P r
 passed P o f r e h = let p = err_from_is_err_and r h in subst (λ (x : Option JobFault). Judged x P r) (sym e) (p.1 ∙ ap Err p.2)
 
--- nothing was found
-pub made_none : {A : Type 0} (P : A → Type 0) (o : Option JobFault) (x : A) → o ≡ None → P x → Judged o P (Ok x)
-made_none P o x e h = subst (λ (y : Option JobFault). Judged y P (Ok x)) (sym e) h
-
 -- a payload has its length
 pub whole_none : (r n : ℕ) (bytes : List ℕ) → length bytes ≡ n → length_fault r n bytes ≡ None
 whole_none r n bytes e = ap (λ (b : Bool). fault_if (not b) (Length r)) (eq-eqb (length bytes) n e)
 
--- a judgement of bytes is one of the same bytes elsewhere
-pub none_at : (fault : List ℕ → Option JobFault) (a b : List ℕ) → a ≡ b → Ok tt ≡ judgment (fault a) → fault b ≡ None
-none_at fault a b same e = subst (λ (x : List ℕ). fault x ≡ None) same (judgment-none _ e)
+-- a judgement of a payload is one of the same payload elsewhere
+pub none_at : (fault : ℕ × List ℕ → Option JobFault) (a b : ℕ × List ℕ) → a ≡ b → Ok tt ≡ judgment (fault a) → fault b ≡ None
+none_at fault a b same e = subst (λ (x : ℕ × List ℕ). fault x ≡ None) same (judgment-none _ e)
 
-pub some_at : (fault : List ℕ → Option JobFault) (a b : List ℕ) (f : JobFault) → a ≡ b → Err f ≡ judgment (fault a) → fault b ≡ Some f
-some_at fault a b f same e = subst (λ (x : List ℕ). fault x ≡ Some f) same (judgment_some _ f e)
+pub some_at : (fault : ℕ × List ℕ → Option JobFault) (a b : ℕ × List ℕ) (f : JobFault) → a ≡ b → Err f ≡ judgment (fault a) → fault b ≡ Some f
+some_at fault a b f same e = subst (λ (x : ℕ × List ℕ). fault x ≡ Some f) same (judgment_some _ f e)
 
 -- of two faults in turn: the first is none, or it is the one
 pub pass : (a b : Option JobFault) → a ≡ None → or_then a b ≡ b

@@ -1,5 +1,5 @@
 -- The grounds on which a payload is refused, by rising number; the first that holds is the fault.
-use Rattle.std.specs.Prelude.{ℕ, ◌*◌, Bool, cond, not, ltb, List, length, Some, None, Ok, Err, Option, Result, ◌==◌, nat_le, nat_lt, slice_index, unsigned_abs}
+use Rattle.std.specs.Prelude.{ℕ, ◌*◌, Bool, cond, not, ltb, List, length, Some, None, Ok, Err, Option, Result, ◌==◌, nat_le, nat_lt, position, unsigned_abs}
 use Rattle.lattice.specs.declared.fault.GridFault.{GridFault}
 use Rattle.lattice.specs.declared.fault.GridFault.TheVariants as grids
 use Rattle.lattice.specs.Grids.{judged}
@@ -71,10 +71,10 @@ rules_fault gas r bytes = or_then (length_fault r (2 * states gas) bytes) (fault
 
 -- the first byte above a limit, and the first from a limit on
 abbrev pub first_above : ℕ → List ℕ → Option ℕ
-first_above limit bytes = first (length bytes) (λ i. ltb limit (slice_index bytes i))
+first_above limit bytes = position (λ b. ltb limit b) bytes
 
 abbrev pub first_from : ℕ → List ℕ → Option ℕ
-first_from limit bytes = first (length bytes) (λ i. nat_le limit (slice_index bytes i))
+first_from limit bytes = position (λ b. nat_le limit b) bytes
 
 -- the map: a byte for each cell, none above the highest
 abbrev pub map_fault : ℕ → ℕ → List ℕ → Option JobFault

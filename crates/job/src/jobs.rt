@@ -7,10 +7,9 @@ ghost use Rattle.job.specs.Jobs.{payloads_fault, job_fault};
 ghost use Rattle.job.specs.Outcomes.{Judged};
 ghost use Rattle.job.specs.Results.{SettingsOf, IsJob};
 
-use super::accounts::judge_book;
 use super::head::Head;
-use super::judging::{Settings, judge_head};
-use super::payloads::{judge_end, judge_field, judge_map, judge_rules};
+use super::judging::Settings;
+use super::payloads::Payload;
 use faults::JobFault;
 use gas::Gas;
 use lattice::Grid;
@@ -18,6 +17,7 @@ use records::{Places, walk};
 use twist::TwistSource;
 
 /// A judged file: what its head says, its grid, and where its payloads lie.
+// Head and grid stand here beside the places: with a field `settings` for both a caller would say no less.
 #[derive(Clone, Copy)]
 pub struct Job {
     pub head: Head,
@@ -35,17 +35,13 @@ fn judge_payloads<G: Gas, S: TwistSource>(
     requires { AllByRecursion (Inside file.now) (listed places) }
     ensures { Judged (payloads_fault (G.Gas.model gas.now) (S.TwistSource.model source.now) (parts file.now places)) (SettingsOf (payload_at file.now places.head)) result }
 {
-    let settings = judge_head(gas, source, places.head.record, places.head.payload(file))?;
+    let settings = Payload::at(places.head, file).judge_head(gas, source)?;
     let cells = settings.grid.cells();
-    judge_rules(gas, places.rules.record, places.rules.payload(file))?;
-    judge_map(places.map.record, places.map.payload(file), cells)?;
-    judge_field(gas, places.field.record, places.field.payload(file), cells)?;
-    judge_book(
-        places.book.record,
-        places.book.payload(file),
-        settings.head.steps,
-    )?;
-    judge_end(places.end.record, places.end.payload(file))?;
+    Payload::at(places.rules, file).judge_rules(gas)?;
+    Payload::at(places.map, file).judge_map(cells)?;
+    Payload::at(places.field, file).judge_field(gas, cells)?;
+    Payload::at(places.book, file).judge_book(settings.head.steps)?;
+    Payload::at(places.end, file).judge_end()?;
     Ok(settings)
 }
 

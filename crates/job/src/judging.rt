@@ -5,6 +5,7 @@ ghost use Rattle.job.specs.Outcomes.{judgment, Judged};
 ghost use Rattle.job.specs.Results.{GridOf, SettingsOf};
 
 use super::head::{Head, read_head};
+use super::payloads::Payload;
 use faults::JobFault;
 use gas::Gas;
 use lattice::{Grid, GridFault};
@@ -39,8 +40,8 @@ pub fn judge_kinds<G: Gas, S: TwistSource>(
     Ok(())
 }
 
-/// The fault of a head's width or height.
-fn grid_fault(number: usize, fault: GridFault) -> JobFault
+/// The fault of a width or a height that stands in this record.
+pub fn grid_fault(number: usize, fault: GridFault) -> JobFault
     ensures { Some result ≡ grid_fault number (Err fault) }
 {
     match fault {
@@ -54,10 +55,7 @@ fn grid_fault(number: usize, fault: GridFault) -> JobFault
 pub fn judge_limits(number: usize, head: Head) -> Result<Grid, JobFault>
     ensures { Judged (limits_fault number head) (GridOf head) result }
 {
-    let grid = match Grid::new(head.width, head.height) {
-        Ok(grid) => grid,
-        Err(fault) => return Err(grid_fault(number, fault)),
-    };
+    let grid = Grid::new(head.width, head.height).map_err(|fault| grid_fault(number, fault))?;
     if head.period > LONGEST_PERIOD {
         return Err(JobFault::Period(number));
     }
@@ -77,20 +75,19 @@ pub fn judge_mark<S: TwistSource>(source: &S, number: usize, head: Head) -> Resu
     Ok(())
 }
 
-/// What the payload of a head record says, if it suits this gas and this source and keeps the limits.
-pub(crate) fn judge_head<G: Gas, S: TwistSource>(
-    gas: &G,
-    source: &S,
-    number: usize,
-    payload: &[u8],
-) -> Result<Settings, JobFault>
-    ensures { Judged (head_fault (G.Gas.model gas.now) (S.TwistSource.model source.now) number payload.now) (SettingsOf payload.now) result }
-{
-    let Some(head) = read_head(payload) else {
-        return Err(JobFault::Length(number));
-    };
-    judge_kinds(gas, source, number, head)?;
-    let grid = judge_limits(number, head)?;
-    judge_mark(source, number, head)?;
-    Ok(Settings { head, grid })
+impl<'a> Payload<'a> {
+    /// What the payload of a head record says, if it suits this gas and this source and keeps the limits.
+    pub(crate) fn judge_head<G: Gas, S: TwistSource>(
+        &self,
+        gas: &G,
+        source: &S,
+    ) -> Result<Settings, JobFault>
+        ensures { Judged (head_fault (G.Gas.model gas.now) (S.TwistSource.model source.now) self.now.number self.now.bytes.now) (SettingsOf self.now.bytes.now) result }
+    {
+        let head = read_head(self.bytes).ok_or(JobFault::Length(self.number))?;
+        judge_kinds(gas, source, self.number, head)?;
+        let grid = judge_limits(self.number, head)?;
+        judge_mark(source, self.number, head)?;
+        Ok(Settings { head, grid })
+    }
 }

@@ -1,5 +1,5 @@
 -- What the program answers to its input: the report of the job, or the refusal of the first line or of the job.
-use Rattle.std.specs.Prelude.{ℕ, List, drop, Ok, Err, Result}
+use Rattle.std.specs.Prelude.{ℕ, List, Ok, Err, Result}
 use Rattle.faults.specs.declared.call.CallFault.{CallFault}
 use Rattle.pairing.specs.Pairings.{chosen}
 use Rattle.front.specs.declared.first_line.FirstLine.{FirstLine}
@@ -12,9 +12,9 @@ printed (Ok text) = text
 printed (Err f) = refused_line f
 
 -- the job behind the first line
-abbrev pub judged_from : List ℕ → Result FirstLine CallFault → Result (List ℕ) CallFault
-judged_from input (Err f) = Err f
-judged_from input (Ok line) = chosen line.steps line.patch (drop line.file_start input)
+abbrev pub judged_from : Result (FirstLine × List ℕ) CallFault → Result (List ℕ) CallFault
+judged_from (Err f) = Err f
+judged_from (Ok (line, file)) = chosen line.steps line.patch file
 
 abbrev pub answer_to : List ℕ → List ℕ
-answer_to input = printed (judged_from input (first_line input))
+answer_to input = printed (judged_from (first_line input))

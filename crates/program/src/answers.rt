@@ -62,13 +62,12 @@ pub fn answer(heap: Global, input: &[u8]) -> Result<Vec<u8>, AllocError>
     ensures { IfOk result (λ bytes. bytes.items ≡ answer_to input.now) }
 {
     match read_first_line(input) {
-        Ok(line) => {
+        Ok((line, file)) => {
             let order = Order {
                 steps: line.steps,
                 patch: line.patch,
             };
-            let start = line.file_start;
-            answer_job(heap, order, &input[start..])
+            answer_job(heap, order, file)
         }
         Err(fault) => refusal(heap, &fault),
     }

@@ -1,14 +1,12 @@
 -- A walk is done exactly of the files that are records in order.
-use Rattle.std.proofs.Common.{◌≡◌, ℕ, ◌+◌, ◌<◌, ◌≢◌, List, [], ◌∷◌, ◌++◌, length, drop, Ok, Err, Result, sym, ap, ◌∙◌, subst, ⊎_elim, append-nil, arith}
+use Rattle.std.proofs.Common.{◌≡◌, ℕ, ◌+◌, ◌<◌, ◌≢◌, List, [], ◌∷◌, ◌++◌, length, drop, Ok, Err, Result, sym, ap, ◌∙◌, subst, ⊎_elim, append-nil, arith, Continue, Break, Some, Option}
 use Rattle.std.specs.List.{AllByRecursion}
 use Rattle.std.proofs.lemmas.List.{append_cancel_left}
 use Rattle.std.proofs.lemmas.Bool.{cases_lt, eq-eqb, ne_eqb}
 use Rattle.faults.specs.declared.record.RecordFault.{RecordFault}
-use Rattle.records.specs.declared.sequence.Next.{Next}
-use Rattle.records.specs.declared.sequence.Step.TheVariants.{Known}
+use Rattle.records.specs.declared.kinds.Kind.{Kind as KnownKind}
 use Rattle.records.specs.declared.payloads.Places.{Places}
 use Rattle.records.specs.declared.walking.Cursor.{Cursor}
-use Rattle.records.specs.declared.walking.Turn.TheVariants.{More, Done}
 use Rattle.records.specs.Format.{Bytes, header_of, record_of}
 use Rattle.records.specs.Orders.{following}
 use Rattle.records.specs.Walk.{whole_of, place_of, noted, past, placed, turn, begin, walked}
@@ -23,7 +21,7 @@ use Rattle.records.proofs.Trails.{Trail, stopped, trail}
 use Rattle.records.proofs.Founds.{done_found}
 
 -- at a record in order that is not the end record the walk goes on
-pub goes_past : (c : Cursor) (g : Rec) (rest : List ℕ) (ks : List ℕ) → Fine g → g.kind ≢ 1 → kinds (g ∷ []) ++ ks ≡ kinds_from c.order.next → (m : Cursor) × (turn c (record_of g.kind g.payload ++ rest) ≡ Ok (More m))
+pub goes_past : (c : Cursor) (g : Rec) (rest : List ℕ) (ks : List ℕ) → Fine g → g.kind ≢ 1 → kinds (g ∷ []) ++ ks ≡ kinds_from c.order.next → (m : Cursor) × (turn c (record_of g.kind g.payload ++ rest) ≡ Ok (Continue m))
 goes_past c g rest ks fine more order =
     let e = c.order.next in
     let k = g.kind in
@@ -33,19 +31,20 @@ goes_past c g rest ks fine more order =
     (λ low.
     let w = first-awaited e k ks (ap (λ l. l ++ ks) (sym (kinds-known g [] low)) ∙ order) in
     let m = past c bs (noted c.places (header_of bs).kind (place_of c bs)) in
-    let goes : placed c bs (Ok Known) ≡ Ok (More m) = rw (ne_eqb (header_of bs).kind 1 (λ z. more (sym (kind_of k g.payload rest) ∙ z))) in
-    (m, at ∙ ap (placed c bs) (answers_known e k w.0 (omega arith) (omega arith)).0 ∙ goes))
+    let known = answers_known e k w.0 (omega arith) (omega arith) in
+    let goes : placed c bs (Ok (Some known.0)) ≡ Ok (Continue m) = rw (ne_eqb (header_of bs).kind 1 (λ z. more (sym (kind_of k g.payload rest) ∙ z))) in
+    (m, at ∙ ap (placed c bs) known.1 ∙ goes))
     (λ high. (past c bs c.places, at ∙ ap (placed c bs) (answers_skipped e k high).0))
     (cases_lt k 128)
 
 -- of several records in order the first is not the end record
-not_yet : (e : Next) (g h : Rec) (hs : List Rec) → kinds (g ∷ h ∷ hs) ≡ kinds_from e → last_kind (h ∷ hs) ≡ 1 → g.kind ≢ 1
+not_yet : (e : Option KnownKind) (g h : Rec) (hs : List Rec) → kinds (g ∷ h ∷ hs) ≡ kinds_from e → last_kind (h ∷ hs) ≡ 1 → g.kind ≢ 1
 not_yet e g h hs order end one =
     let w = first-awaited e g.kind (kinds (h ∷ hs)) (sym (kinds-known g (h ∷ hs) (omega arith)) ∙ order) in
     last_kept (h ∷ hs) end (w.1 ∙ ap (λ x. kinds_from (following x)) (is_end e (sym w.0 ∙ one)))
 
 -- and at the last it is done
-ends : (c : Cursor) (g : Rec) → Fine g → kinds (g ∷ []) ≡ kinds_from c.order.next → g.kind ≡ 1 → (places : Places) × (turn c (laid (g ∷ [])) ≡ Ok (Done places))
+ends : (c : Cursor) (g : Rec) → Fine g → kinds (g ∷ []) ≡ kinds_from c.order.next → g.kind ≡ 1 → (places : Places) × (turn c (laid (g ∷ [])) ≡ Ok (Break places))
 ends c g fine order one =
     let e = c.order.next in
     let k = g.kind in
@@ -54,14 +53,15 @@ ends c g fine order one =
     let w = first-awaited e k [] (sym (kinds-known g [] (omega arith)) ∙ order) in
     let long = ap length (append-nil (record_of k g.payload)) ∙ length_record k g.payload in
     let whole : length bs ≡ whole_of bs = omega (arith, long, length_of_lem k g.payload [] fine.short) in
-    let done : placed c bs (Ok Known) ≡ Ok (Done places) = rw (eq-eqb (header_of bs).kind 1 (kind_of k g.payload [] ∙ one), eq-eqb (length bs) (whole_of bs) whole) in
-    (places, turn_at c g [] fine ∙ ap (placed c bs) (answers_known e k w.0 (omega arith) (omega arith)).0 ∙ done)
+    let known = answers_known e k w.0 (omega arith) (omega arith) in
+    let done : placed c bs (Ok (Some known.0)) ≡ Ok (Break places) = rw (eq-eqb (header_of bs).kind 1 (kind_of k g.payload [] ∙ one), eq-eqb (length bs) (whole_of bs) whole) in
+    (places, turn_at c g [] fine ∙ ap (placed c bs) known.1 ∙ done)
 
-stopped_done : (r : Result Places RecordFault) (places : Places) → stopped r ≡ Ok (Done places) → r ≡ Ok places
+stopped_done : (r : Result Places RecordFault) (places : Places) → stopped r ≡ Ok (Break places) → r ≡ Ok places
 stopped_done (Ok q) places e = cc
 stopped_done (Err f) places e = absurd (let z : ◌≡◌ {A = ℕ} 0 1 = cc in omega arith)
 
-pub stopped_more : (r : Result Places RecordFault) (m : Cursor) → stopped r ≡ Ok (More m) → ⊥
+pub stopped_more : (r : Result Places RecordFault) (m : Cursor) → stopped r ≡ Ok (Continue m) → ⊥
 stopped_more (Ok q) m e = let z : ◌≡◌ {A = ℕ} 0 1 = cc in omega arith
 stopped_more (Err f) m e = let z : ◌≡◌ {A = ℕ} 0 1 = cc in omega arith
 

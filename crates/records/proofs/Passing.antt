@@ -1,12 +1,11 @@
 -- Records that a walk passes: one after another, and what is noted of them.
-use Rattle.std.proofs.Common.{◌≡◌, ℕ, ◌+◌, ◌<◌, ◌≤◌, ◌≢◌, List, [], ◌∷◌, ◌++◌, map, length, take, drop, Ok, sym, refl, ap, ◌∙◌, subst, ⊎_elim, append_assoc, append-nil, arith, length-append, length-drop, drop-drop}
+use Rattle.std.proofs.Common.{◌≡◌, ℕ, ◌+◌, ◌<◌, ◌≤◌, ◌≢◌, List, [], ◌∷◌, ◌++◌, map, length, take, drop, Ok, sym, refl, ap, ◌∙◌, subst, ⊎_elim, append_assoc, append-nil, arith, length-append, length-drop, drop-drop, Continue}
 use Rattle.std.specs.List.{AllByRecursion}
 use Rattle.std.proofs.lemmas.List.{map-append}
 use Rattle.std.proofs.ByRecursion.{All-append, All-drop}
 use Rattle.std.proofs.lemmas.Bool.{cases_lt}
 use Rattle.records.specs.declared.payloads.Place.{Place}
 use Rattle.records.specs.declared.walking.Cursor.{Cursor}
-use Rattle.records.specs.declared.walking.Turn.TheVariants.{More}
 use Rattle.records.specs.Format.{Bytes, header_of, record_of}
 use Rattle.records.specs.Orders.{awaited, following}
 use Rattle.records.specs.Walk.{whole_of, payload_of, place_of, noted, turn}
@@ -60,7 +59,7 @@ onward file c =
     ap (λ n. drop n file) sum ∙ sym (drop-drop (whole_of bs) c.at file)
 
 -- a turn that goes on passes the record at the front
-module _ (file : List ℕ) (all : Bytes file) (c m : Cursor) (goes : turn c (drop c.at file) ≡ Ok (More m)) where
+module _ (file : List ℕ) (all : Bytes file) (c m : Cursor) (goes : turn c (drop c.at file) ≡ Ok (Continue m)) where
   abbrev here : List ℕ
   here = drop c.at file
 
@@ -96,7 +95,7 @@ module _ (file : List ℕ) (all : Bytes file) (c m : Cursor) (goes : turn c (dro
       let w = knew c m here goes low in
       let x = place_of c here in
       let some : 1 ≤ awaited e = omega arith in
-      let moves = (answers_known e front.kind w.0 (omega arith) w.2).1 in
+      let moves = (answers_known e front.kind w.0 (omega arith) w.2).2 in
       let notes = (λ i. filled (moves i) (noted c.places (w.0 i) x)) ∙ filled_more e c.places x some in
       let before = map (part file) (noted_at c) in
       subst (λ y. Passed file c y (front ∷ [])) w.3 (record {

@@ -1,13 +1,12 @@
 -- The walk tells the first fault, whichever it is.
-use Rattle.std.proofs.Common.{◌≡◌, ℕ, ◌+◌, ◌≤◌, ◌≢◌, ◌⊎◌, List, [], ◌∷◌, ◌++◌, length, drop, Ok, Err, Result, sym, refl, ap, ◌∙◌, subst, inl, inr, append_assoc, arith}
+use Rattle.std.proofs.Common.{◌≡◌, ℕ, ◌+◌, ◌≤◌, ◌≢◌, ◌⊎◌, List, [], ◌∷◌, ◌++◌, length, drop, Ok, Err, Result, sym, refl, ap, ◌∙◌, subst, inl, inr, append_assoc, arith, Option, Some}
 use Rattle.std.specs.List.{AllByRecursion}
 use Rattle.std.proofs.lemmas.List.{append_cancel_left}
 use Rattle.std.proofs.lemmas.Bool.{eq-eqb, ne_eqb}
 use Rattle.std.proofs.lemmas.Bool.Decides.{nat_tests}
 use Rattle.faults.specs.declared.record.RecordFault.{RecordFault}
 use Rattle.faults.specs.declared.record.RecordFault.TheVariants.{Size, Cut, Check, Kind, Order, Ending}
-use Rattle.records.specs.declared.sequence.Next.{Next}
-use Rattle.records.specs.declared.sequence.Step.TheVariants.{Known}
+use Rattle.records.specs.declared.kinds.Kind.{Kind as KnownKind}
 use Rattle.records.specs.declared.sequence.OrderFault.TheVariants.{Unknown, NotNext}
 use Rattle.records.specs.declared.payloads.Places.{Places}
 use Rattle.records.specs.declared.walking.Cursor.{Cursor}
@@ -29,11 +28,11 @@ cuts c bs short = let some = short.0 in let less = short.1 in grind (arith, nat_
 checks : (c : Cursor) (bs : List ℕ) → CheckWrong bs → turn c bs ≡ Err (Check c.count)
 checks c bs wrong = let whole = wrong.0 in let no = ne_eqb (check_of (payload_of bs)) (header_of bs).check wrong.1 in grind (arith, nat_tests)
 
-no_kind : (e : Next) (k : ℕ) → (k ≡ 0) ⊎ ((7 ≤ k) × (k ≤ 127)) → answer e k ≡ Err Unknown
+no_kind : (e : Option KnownKind) (k : ℕ) → (k ≡ 0) ⊎ ((7 ≤ k) × (k ≤ 127)) → answer e k ≡ Err Unknown
 no_kind e k (inl none) = grind (arith, nat_tests)
 no_kind e k (inr between) = let low = between.0 in let high = between.1 in grind (arith, nat_tests)
 
-not_next : (e : Next) (k : ℕ) → 1 ≤ k → k ≤ 6 → (k ≡ awaited e → ⊥) → answer e k ≡ Err NotNext
+not_next : (e : Option KnownKind) (k : ℕ) → 1 ≤ k → k ≤ 6 → (k ≡ awaited e → ⊥) → answer e k ≡ Err NotNext
 not_next e k low high other = let no = ne_eqb k (awaited e) other in grind (arith, nat_tests)
 
 -- at the bytes that have the reason the walk stops with the fault
@@ -52,10 +51,10 @@ stops c rs bs (Ending n) counts order (inr (is, (stands, one, last, longer))) =
     let e = c.order.next in
     let k = (header_of bs).kind in
     let w = first-awaited e 1 [] (append_cancel_left (kinds rs) (1 ∷ []) (kinds_from e) (last ∙ sym order)) in
-    let known = (answers_known e k (one ∙ w.0) (omega arith) (omega arith)).0 in
-    let goes : placed c bs (Ok Known) ≡ Err (Ending (c.count + 1)) = rw (eq-eqb k 1 one, ne_eqb (length bs) (whole_of bs) (λ z. omega arith)) in
+    let known = answers_known e k (one ∙ w.0) (omega arith) (omega arith) in
+    let goes : placed c bs (Ok (Some known.0)) ≡ Err (Ending (c.count + 1)) = rw (eq-eqb k 1 one, ne_eqb (length bs) (whole_of bs) (λ z. omega arith)) in
     let count : c.count + 1 ≡ n = omega arith in
-    turn_stands c bs stands ∙ ap (placed c bs) known ∙ goes ∙ ap (λ m. Err (Ending m)) count
+    turn_stands c bs stands ∙ ap (placed c bs) known.1 ∙ goes ∙ ap (λ m. Err (Ending m)) count
 
 -- no reason holds of bytes that begin with a record in order
 no_reason : (c : Cursor) (rs : List Rec) (g : Rec) (rest : List ℕ) (ks : List ℕ) (f : RecordFault) → Fine g → g.kind ≢ 1 → c.count ≡ length rs → kinds rs ++ kinds_from c.order.next ≡ in_order → kinds (g ∷ []) ++ ks ≡ kinds_from c.order.next → Reason rs (record_of g.kind g.payload ++ rest) f → ⊥
@@ -66,7 +65,7 @@ no_reason c rs g rest ks f fine more counts order goes why =
     omega arith
 
 -- the kinds that have yet to come behind some of them
-yet_to_come : (e : Next) (ls ks : List ℕ) → ls ++ ks ≡ kinds_from e → (d : Next) × (ks ≡ kinds_from d)
+yet_to_come : (e : Option KnownKind) (ls ks : List ℕ) → ls ++ ks ≡ kinds_from e → (d : Option KnownKind) × (ks ≡ kinds_from d)
 yet_to_come e [] ks is = (e, is)
 yet_to_come e (l ∷ ls) ks is = yet_to_come (following e) ls ks (first-awaited e l (ls ++ ks) is).1
 

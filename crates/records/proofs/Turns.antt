@@ -1,5 +1,5 @@
 -- One turn of the loop is one turn of `walked_from`.
-use Rattle.std.proofs.Common.{◌≡◌, ℕ, zero, suc, ◌+◌, ◌-◌, ◌<◌, ◌≤◌, List, ◌++◌, length, take, drop, Ok, Err, Result, sym, ap, ◌∙◌, inl, inr, arith, length-append}
+use Rattle.std.proofs.Common.{◌≡◌, ℕ, zero, suc, ◌+◌, ◌-◌, ◌<◌, ◌≤◌, List, ◌++◌, length, take, drop, Ok, Err, Result, sym, ap, ◌∙◌, inl, inr, arith, length-append, Continue, Break}
 use Rattle.std.proofs.lemmas.List.{take_rest}
 use Rattle.std.proofs.lemmas.Bool.{eq-eqb, ne_eqb, lt-ltb, le-ltb}
 use Rattle.std.proofs.lemmas.Bool.Decides.{nat_tests}
@@ -7,11 +7,9 @@ use Rattle.faults.specs.declared.record.RecordFault.{RecordFault}
 use Rattle.faults.specs.declared.record.RecordFault.TheVariants.{Size}
 use Rattle.records.specs.declared.payloads.Places.{Places}
 use Rattle.records.specs.declared.walking.Cursor.{Cursor}
-use Rattle.records.specs.declared.walking.Turn.{Turn}
-use Rattle.records.specs.declared.walking.Turn.TheVariants.{More, Done}
 use Rattle.records.specs.Format.{header_of, check_of, record_of}
 use Rattle.records.specs.Orders.{awaited, answer}
-use Rattle.records.specs.Walk.{whole_of, payload_of, place_of, noted, past, placed, turn, goes_on, walked_from, begin, walked}
+use Rattle.records.specs.Walk.{Turn, whole_of, payload_of, place_of, noted, past, placed, turn, goes_on, walked_from, begin, walked}
 use Rattle.records.specs.Files.{Rec, Fine}
 use Rattle.records.specs.Stops.{Stands, WrongSize}
 use Rattle.records.proofs.Headers.{kind_of, length_of_lem, check_of_lem, length_record, payload_of_lem}
@@ -55,15 +53,15 @@ turn_at c r rest fine =
     turn_stands c bs (stands_of r rest fine) ∙ ap (λ n. placed c bs (answer c.order.next n)) (kind_of r.kind r.payload rest)
 
 -- what a turn that went on tells
-pub fits : (c m : Cursor) (bs : List ℕ) → turn c bs ≡ Ok (More m) → (whole_of bs ≤ length bs) × (check_of (payload_of bs) ≡ (header_of bs).check)
+pub fits : (c m : Cursor) (bs : List ℕ) → turn c bs ≡ Ok (Continue m) → (whole_of bs ≤ length bs) × (check_of (payload_of bs) ≡ (header_of bs).check)
 fits c m bs e = (grind (arith, nat_tests), grind (arith, nat_tests))
 
-pub skipped : (c m : Cursor) (bs : List ℕ) → turn c bs ≡ Ok (More m) → 128 ≤ (header_of bs).kind → past c bs c.places ≡ m
+pub skipped : (c m : Cursor) (bs : List ℕ) → turn c bs ≡ Ok (Continue m) → 128 ≤ (header_of bs).kind → past c bs c.places ≡ m
 skipped c m bs e h = grind (arith, nat_tests)
 
-pub knew : (c m : Cursor) (bs : List ℕ) → turn c bs ≡ Ok (More m) → (header_of bs).kind < 128 → ((header_of bs).kind ≡ awaited c.order.next) × (1 < (header_of bs).kind) × ((header_of bs).kind ≤ 6) × (past c bs (noted c.places (header_of bs).kind (place_of c bs)) ≡ m)
+pub knew : (c m : Cursor) (bs : List ℕ) → turn c bs ≡ Ok (Continue m) → (header_of bs).kind < 128 → ((header_of bs).kind ≡ awaited c.order.next) × (1 < (header_of bs).kind) × ((header_of bs).kind ≤ 6) × (past c bs (noted c.places (header_of bs).kind (place_of c bs)) ≡ m)
 knew c m bs e h = (grind (arith, nat_tests), grind (arith, nat_tests), grind (arith, nat_tests), grind (arith, nat_tests))
 
 -- and one that ended
-pub finished : (c : Cursor) (places : Places) (bs : List ℕ) → turn c bs ≡ Ok (Done places) → (whole_of bs ≡ length bs) × (check_of (payload_of bs) ≡ (header_of bs).check) × ((header_of bs).kind ≡ 1) × ((header_of bs).kind ≡ awaited c.order.next) × (noted c.places (header_of bs).kind (place_of c bs) ≡ places)
+pub finished : (c : Cursor) (places : Places) (bs : List ℕ) → turn c bs ≡ Ok (Break places) → (whole_of bs ≡ length bs) × (check_of (payload_of bs) ≡ (header_of bs).check) × ((header_of bs).kind ≡ 1) × ((header_of bs).kind ≡ awaited c.order.next) × (noted c.places (header_of bs).kind (place_of c bs) ≡ places)
 finished c places bs e = (grind (arith, nat_tests), grind (arith, nat_tests), grind (arith, nat_tests), grind (arith, nat_tests), grind (arith, nat_tests))

@@ -1,4 +1,5 @@
 pub mod Format
+pub mod Kinds
 pub mod Orders
 pub mod Walk
 pub mod Files

@@ -1,17 +1,15 @@
 -- The file is judged record by record as far as the end record, each for a cut, its check, its kind and its order, and then for the file's ending.
-use Rattle.std.specs.Prelude.{◌≡◌, ℕ, zero, suc, ◌+◌, ◌<◌, ◌≤◌, cond, List, length, take, drop, Ok, Err, Result, ◌==◌, nat_lt}
+use Rattle.std.specs.Prelude.{◌≡◌, ℕ, zero, suc, ◌+◌, ◌<◌, ◌≤◌, cond, List, length, take, drop, Some, None, Option, Ok, Err, Result, ◌==◌, nat_lt}
 use Rattle.faults.specs.declared.record.RecordFault.{RecordFault}
 use Rattle.faults.specs.declared.record.RecordFault.TheVariants.{Size, Cut, Check, Kind, Order, Ending}
-use Rattle.records.specs.declared.sequence.Next.{Next}
-use Rattle.records.specs.declared.sequence.Step.{Step}
-use Rattle.records.specs.declared.sequence.Step.TheVariants.{Skipped, Known}
+use Rattle.records.specs.declared.kinds.Kind.{Kind as KnownKind}
 use Rattle.records.specs.declared.sequence.OrderFault.{OrderFault}
 use Rattle.records.specs.declared.sequence.OrderFault.TheVariants.{Unknown, NotNext}
 use Rattle.records.specs.declared.payloads.Place.{Place}
 use Rattle.records.specs.declared.payloads.Places.{Places}
 use Rattle.records.specs.declared.walking.Cursor.{Cursor}
-use Rattle.records.specs.declared.walking.Turn.{Turn}
-use Rattle.records.specs.declared.walking.Turn.TheVariants.{More, Done}
+use Rattle.std.specs.declared.ops.ControlFlow.{ControlFlow}
+use Rattle.std.specs.declared.ops.ControlFlow.TheVariants.{Continue, Break}
 use Rattle.records.specs.Format.{header_of, check_of}
 use Rattle.records.specs.Orders.{begun, answer, moved}
 
@@ -44,8 +42,12 @@ noted p k x = record {
   end = cond (k == 1) x p.end;
 }
 
+-- what one record leads to: the walk goes on behind it, or is done
+abbrev pub Turn : Type 0
+Turn = ControlFlow Places Cursor
+
 -- the walk behind a record whose payload has n bytes
-abbrev pub behind : Cursor → ℕ → Next → Places → Cursor
+abbrev pub behind : Cursor → ℕ → Option KnownKind → Places → Cursor
 behind c n next places = record { at = c.at + 8 + n; count = c.count + 1; order = record { next = next }; places = places }
 
 abbrev pub past : Cursor → List ℕ → Places → Cursor
@@ -54,15 +56,15 @@ past c bs places = behind c (header_of bs).length (moved c.order.next (header_of
 -- the end record ends the walk, if the file ends with it
 abbrev pub taken : Cursor → List ℕ → Places → Result Turn RecordFault
 taken c bs places = cond ((header_of bs).kind == 1)
-    (cond (length bs == whole_of bs) (Ok (Done places)) (Err (Ending (c.count + 1))))
-    (Ok (More (past c bs places)))
+    (cond (length bs == whole_of bs) (Ok (Break places)) (Err (Ending (c.count + 1))))
+    (Ok (Continue (past c bs places)))
 
 -- a whole record that fits its check, by what the order answers to its kind
-abbrev pub placed : Cursor → List ℕ → Result Step OrderFault → Result Turn RecordFault
+abbrev pub placed : Cursor → List ℕ → Result (Option KnownKind) OrderFault → Result Turn RecordFault
 placed c bs (Err Unknown) = Err (Kind c.count)
 placed c bs (Err NotNext) = Err (Order c.count)
-placed c bs (Ok Skipped) = Ok (More (past c bs c.places))
-placed c bs (Ok Known) = taken c bs (noted c.places (header_of bs).kind (place_of c bs))
+placed c bs (Ok None) = Ok (Continue (past c bs c.places))
+placed c bs (Ok (Some kind)) = taken c bs (noted c.places (header_of bs).kind (place_of c bs))
 
 -- the record at the front of bs, which are the file from this record on
 abbrev pub turn : Cursor → List ℕ → Result Turn RecordFault
@@ -74,8 +76,8 @@ turn c bs = cond (length bs == 0) (Err (Ending c.count))
 -- a turn ends the walk, or the walk goes on behind the record
 abbrev pub goes_on : (Cursor → Result Places RecordFault) → Result Turn RecordFault → Result Places RecordFault
 goes_on next (Err e) = Err e
-goes_on next (Ok (Done places)) = Ok places
-goes_on next (Ok (More c)) = next c
+goes_on next (Ok (Break places)) = Ok places
+goes_on next (Ok (Continue c)) = next c
 
 -- no more than n records
 abbrev pub walked_from : List ℕ → ℕ → Cursor → Result Places RecordFault
@@ -95,5 +97,5 @@ walked limit file = cond (length file == 0) (Err Size) (cond (nat_lt limit (leng
 
 -- a record takes up bytes, and no more than there are
 abbrev pub Goes : Cursor → List ℕ → Turn → Type 0
-Goes c bs (More n) = (c.at < n.at) × (n.at ≤ c.at + length bs) × (n.count ≡ c.count + 1)
-Goes c bs (Done places) = Unit {0}
+Goes c bs (Continue n) = (c.at < n.at) × (n.at ≤ c.at + length bs) × (n.count ≡ c.count + 1)
+Goes c bs (Break places) = Unit {0}

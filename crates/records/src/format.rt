@@ -36,12 +36,13 @@ pub fn read_header(bytes: &[u8]) -> Option<(Header, &[u8])>
 
 /// 1 and the sum of (i + 1) × byte i, modulo 2^32.
 pub fn check_of(payload: &[u8]) -> u32
-    requires { length payload.now < 2 ^ 24 }
     ensures { result ≡ check_of payload.now }
 {
+    let mut weight: u32 = 0;
     let mut sum: u32 = 1;
-    for (i, byte) in payload.iter().enumerate() {
-        sum = sum.wrapping_add((i as u32 + 1) * u32::from(*byte));
+    for byte in payload {
+        weight = weight.wrapping_add(1);
+        sum = sum.wrapping_add(weight.wrapping_mul(u32::from(*byte)));
     }
     sum
 }

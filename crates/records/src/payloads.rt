@@ -1,10 +1,13 @@
 // Where the payloads of the known records lie.
 ghost use Rattle.std.specs.Prelude.{◌≡◌};
+ghost use Rattle.records.specs.Kinds.{number_of};
 ghost use Rattle.records.specs.Walk.{noted};
 ghost use Rattle.records.specs.Layout.{Inside, payload_at};
 
+use super::kinds::Kind;
+
 /// A known record's number, counted from 0 with the skipped ones, and the place of its payload in the file.
-#[derive(Clone, Copy, Debug, PartialEq)]
+#[derive(Clone, Copy, Debug, Default, PartialEq, Eq, Hash)]
 pub struct Place {
     pub record: usize,
     pub start: usize,
@@ -24,7 +27,7 @@ impl Place {
 }
 
 /// The places of the known records' payloads.
-#[derive(Clone, Copy, Debug, PartialEq)]
+#[derive(Clone, Copy, Debug, Default, PartialEq, Eq, Hash)]
 pub struct Places {
     pub head: Place,
     pub rules: Place,
@@ -36,17 +39,16 @@ pub struct Places {
 
 impl Places {
     // Notes where the payload of the record of this kind lies.
-    pub(crate) fn note(&mut self, kind: u8, place: Place)
-        ensures { self.new ≡ noted self.old kind place }
+    pub(crate) fn note(&mut self, kind: Kind, place: Place)
+        ensures { self.new ≡ noted self.old (number_of kind) place }
     {
         match kind {
-            1 => self.end = place,
-            2 => self.head = place,
-            3 => self.rules = place,
-            4 => self.map = place,
-            5 => self.field = place,
-            6 => self.book = place,
-            _ => {}
+            Kind::Head => self.head = place,
+            Kind::Rules => self.rules = place,
+            Kind::Map => self.map = place,
+            Kind::Field => self.field = place,
+            Kind::Book => self.book = place,
+            Kind::End => self.end = place,
         }
     }
 }

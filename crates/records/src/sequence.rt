@@ -2,27 +2,12 @@
 ghost use Rattle.std.specs.Prelude.{◌≡◌};
 ghost use Rattle.records.specs.Orders.{answer, moved, begun};
 
-/// The record that has to come next, of those that are not skipped.
-#[derive(Clone, Copy, Debug, PartialEq)]
-pub enum Next {
-    Head,
-    Rules,
-    Map,
-    Field,
-    Book,
-    End,
-    /// The end record has come.
-    Nothing,
-}
+use super::kinds::Kind;
 
-/// What becomes of a record that stands where it may.
-#[derive(Clone, Copy, Debug, PartialEq)]
-pub enum Step {
-    Skipped,
-    Known,
-}
+/// From this number on a kind is skipped.
+const FIRST_SKIPPED: u8 = 128;
 
-#[derive(Clone, Copy, Debug, PartialEq)]
+#[derive(Clone, Copy, Debug, PartialEq, Eq, Hash)]
 pub enum OrderFault {
     /// The kind is no kind.
     Unknown,
@@ -30,35 +15,34 @@ pub enum OrderFault {
     NotNext,
 }
 
-/// How far the order has come.
-#[derive(Clone, Copy, Debug, PartialEq)]
+/// How far the order has come: the kind that has to come next, of those that are not skipped; none behind the end.
+#[derive(Clone, Copy, Debug, PartialEq, Eq, Hash)]
 pub struct Order {
-    next: Next,
+    next: Option<Kind>,
 }
 
 impl Order {
     pub fn new() -> Order
         ensures { result ≡ begun }
     {
-        Order { next: Next::Head }
+        Order {
+            next: Some(Kind::Head),
+        }
     }
 
-    /// Moves on by a record of this kind, if it may come next.
-    pub fn accept(&mut self, kind: u8) -> Result<Step, OrderFault>
-        ensures says { result ≡ answer self.old.next kind }
-        ensures moves { self.new.next ≡ moved self.old.next kind }
+    /// Moves on by a record of the kind of this number, if it may come next; none if it is skipped.
+    pub fn accept(&mut self, number: u8) -> Result<Option<Kind>, OrderFault>
+        ensures says { result ≡ answer self.old.next number }
+        ensures moves { self.new.next ≡ moved self.old.next number }
     {
-        self.next = match (self.next, kind) {
-            (_, 128..=255) => return Ok(Step::Skipped),
-            (_, 0 | 7..=127) => return Err(OrderFault::Unknown),
-            (Next::Head, 2) => Next::Rules,
-            (Next::Rules, 3) => Next::Map,
-            (Next::Map, 4) => Next::Field,
-            (Next::Field, 5) => Next::Book,
-            (Next::Book, 6) => Next::End,
-            (Next::End, 1) => Next::Nothing,
-            _ => return Err(OrderFault::NotNext),
-        };
-        Ok(Step::Known)
+        if number >= FIRST_SKIPPED {
+            return Ok(None);
+        }
+        let kind = Kind::try_from(number).map_err(|_| OrderFault::Unknown)?;
+        if self.next != Some(kind) {
+            return Err(OrderFault::NotNext);
+        }
+        self.next = kind.following();
+        Ok(Some(kind))
     }
 }

@@ -1,13 +1,16 @@
 // The walk over a file: record by record, as far as the end record.
 ghost use Rattle.std.specs.Prelude.{◌≡◌, ℕ, ◌+◌, ◌<◌, ◌≤◌, length, IfOk};
+ghost use Rattle.records.specs.Kinds.{number_of};
 ghost use Rattle.records.specs.Walk.{begin, behind, place_at, noted, turn, Goes, largest_file, walked};
 ghost use Rattle.records.specs.Layout.{Layout};
 ghost use Rattle.records.specs.Stops.{Refusal};
 
 use super::format::{HEADER_LENGTH, check_of, read_header};
+use super::kinds::Kind;
 use super::payloads::{Place, Places};
-use super::sequence::{Order, OrderFault, Step};
+use super::sequence::{Order, OrderFault};
 use faults::RecordFault;
+use std::ops::ControlFlow;
 
 /// No file is longer.
 pub const LARGEST_FILE: usize = 65_536;
@@ -25,24 +28,11 @@ impl Cursor {
     fn new() -> Cursor
         ensures { result ≡ begin }
     {
-        let none = Place {
-            record: 0,
-            start: 0,
-            length: 0,
-        };
-        let places = Places {
-            head: none,
-            rules: none,
-            map: none,
-            field: none,
-            book: none,
-            end: none,
-        };
         Cursor {
             at: 0,
             count: 0,
             order: Order::new(),
-            places,
+            places: Places::default(),
         }
     }
 
@@ -60,9 +50,9 @@ impl Cursor {
     }
 
     // The places, with this record's payload.
-    fn noting(self, kind: u8, length: usize) -> Places
+    fn noting(self, kind: Kind, length: usize) -> Places
         requires { self.at ≤ 65536 }
-        ensures { result ≡ noted self.places kind (place_at self length) }
+        ensures { result ≡ noted self.places (number_of kind) (place_at self length) }
     {
         let mut places = self.places;
         let place = Place {
@@ -75,15 +65,8 @@ impl Cursor {
     }
 }
 
-// What one record leads to.
-#[derive(Clone, Copy)]
-enum Turn {
-    More(Cursor),
-    Done(Places),
-}
-
-// Judges the record at the front of `bytes`, which are the file from `c.at` on.
-fn judge_record(bytes: &[u8], c: Cursor) -> Result<Turn, RecordFault>
+// Judges the record at the front of `bytes`, which are the file from `c.at` on: the walk goes on behind it, or is done.
+fn judge_record(bytes: &[u8], c: Cursor) -> Result<ControlFlow<Places, Cursor>, RecordFault>
     requires { (c.at + length bytes.now ≤ 65536) × (c.count ≤ c.at) }
     ensures answers { result ≡ turn c bytes.now }
     ensures goes { IfOk result (Goes c bytes.now) }
@@ -106,13 +89,13 @@ fn judge_record(bytes: &[u8], c: Cursor) -> Result<Turn, RecordFault>
     match order.accept(header.kind) {
         Err(OrderFault::Unknown) => Err(RecordFault::Kind(record)),
         Err(OrderFault::NotNext) => Err(RecordFault::Order(record)),
-        Ok(Step::Skipped) => Ok(Turn::More(c.past(length, order, c.places))),
-        Ok(Step::Known) => {
-            let places = c.noting(header.kind, length);
-            if header.kind != 1 {
-                Ok(Turn::More(c.past(length, order, places)))
+        Ok(None) => Ok(ControlFlow::Continue(c.past(length, order, c.places))),
+        Ok(Some(kind)) => {
+            let places = c.noting(kind, length);
+            if kind != Kind::End {
+                Ok(ControlFlow::Continue(c.past(length, order, places)))
             } else if rest.len() == length {
-                Ok(Turn::Done(places))
+                Ok(ControlFlow::Break(places))
             } else {
                 Err(RecordFault::Ending(record + 1))
             }
@@ -133,8 +116,8 @@ pub fn walk(file: &[u8]) -> Result<Places, RecordFault>
     'records: loop {
         let at = c.at;
         match judge_record(&file[at..], c)? {
-            Turn::More(next) => c = next,
-            Turn::Done(places) => return Ok(places),
+            ControlFlow::Continue(next) => c = next,
+            ControlFlow::Break(places) => return Ok(places),
         }
     }
 }

@@ -1,24 +1,15 @@
-use Rattle.std.proofs.Common.{◌≡◌, ◌+◌, ◌*◌, ◌<◌, length, get_or, drop, ap, arith}
-use Rattle.std.proofs.lemmas.List.{at_drop_more, at_drop_all}
-use Rattle.std.proofs.lemmas.Nat.{mul-le}
+use Rattle.std.proofs.Common.{◌≡◌, ◌+◌, ◌*◌, ◌%◌, ◌^◌, get_or, drop, ◌∙◌, arith}
+use Rattle.std.proofs.lemmas.List.{at_drop_more}
+use Rattle.std.proofs.lemmas.Nat.{mul-mod_first}
 use Rattle.records.specs.Format.{weighed}
 use Rattle.records.proofs.format.check_of.Goals as goal
 
-pub overflow_mul-sum : goal.overflow_mul-sum
-overflow_mul-sum c = omega (arith, mul-le (c.loop-i.i + 1) c.from.result 16777216 255 (omega arith) (omega arith))
-
-pub loop-i-preserved : goal.loop-i-preserved
-loop-i-preserved c =
+pub loop-byte-preserved : goal.loop-byte-preserved
+loop-byte-preserved c =
     let xs = c.args.payload.now in
-    let i = c.loop-i.i in
-    let h : i < length xs = omega arith in
-    let more : weighed i (drop i xs) ≡ (i + 1) * get_or xs i 0 + weighed (i + 1) (drop (i + 1) xs) = at_drop_more (weighed i) xs i 0 h in
-    let same : (i + 1) * c.from.result ≡ (i + 1) * get_or xs i 0 = ap (λ b. (i + 1) * b) c.from.ensures in
-    (omega arith, omega arith)
-
-pub returns : goal.returns
-returns c =
-    let xs = c.args.payload.now in
-    let i = c.loop-i.i in
-    let done : weighed i (drop i xs) ≡ 0 = at_drop_all (weighed i) xs i (omega arith) in
-    omega (arith, done)
+    let i = c.loop-byte.byte-index in
+    let weight : (c.loop-byte.weight + 1) % 2 ^ 32 ≡ (i + 1) % 2 ^ 32 = omega (arith, c.loop-byte.invariant.weight) in
+    let term : (c.loop-byte.weight + 1) % 2 ^ 32 * c.from.result % 2 ^ 32 ≡ (i + 1) * get_or xs i 0 % 2 ^ 32 =
+    (λ j. weight j * c.from.ensures j % 2 ^ 32) ∙ mul-mod_first (i + 1) (get_or xs i 0) (2 ^ 32) in
+    let more : weighed i (drop i xs) ≡ (i + 1) * get_or xs i 0 + weighed (i + 1) (drop (i + 1) xs) = at_drop_more (weighed i) xs i 0 c.loop-byte-test.true in
+    record { weight = weight; sum = omega (arith, c.loop-byte.invariant.sum, term, more) }

@@ -1,10 +1,9 @@
-use Rattle.std.proofs.Common.{◌≡◌, ℕ, ◌+◌, ◌<◌, ◌≤◌, List, length, get_or, Ok, Err, Result, sym, ap, ◌∙◌, subst, inl, inr, ⊎_elim, arith, w8, Fits, rules}
+use Rattle.std.proofs.Common.{◌≡◌, ℕ, ◌+◌, ◌<◌, ◌≤◌, List, length, get_or, Ok, Err, Result, sym, ap, ◌∙◌, subst, inl, inr, ⊎_elim, arith, w8, Fits, rules, Continue, Break}
 use Rattle.std.proofs.lemmas.Result.{err_from_is_err_and}
 use Rattle.std.proofs.ByRecursion.{All-from_get_or}
 use Rattle.std.proofs.lemmas.Bool.{eqb-true}
 use Rattle.faults.specs.declared.record.RecordFault.{RecordFault}
 use Rattle.faults.specs.declared.record.RecordFault.TheVariants.{Size}
-use Rattle.records.specs.declared.walking.Turn.TheVariants.{More, Done}
 use Rattle.records.specs.declared.payloads.Places.{Places}
 use Rattle.records.specs.Layout.{Layout}
 use Rattle.records.specs.Stops.{WrongSize, Refusal}
@@ -50,13 +49,13 @@ pub records-preserved : goal.records-preserved
 records-preserved c =
     let file = c.args.file.now in
     let inv = c.records.invariant in
-    let goes = subst (Goes c.records.c _) c.in-More.is c.in_ok-next.ensures.goes in
-    let t = one_turn file c.records.c (Ok (More c.in-More.next)) inv.3.0 (walked largest_file file) inv.3.1 inv.3.2 (let h = c.in_ok-next.ensures.answers in cc) in
+    let goes = subst (Goes c.records.c _) c.in-Continue.is c.in_ok-next.ensures.goes in
+    let t = one_turn file c.records.c (Ok (Continue c.in-Continue.next)) inv.3.0 (walked largest_file file) inv.3.1 inv.3.2 (let h = c.in_ok-next.ensures.answers in cc) in
     (omega arith, omega arith, inv.2, (t.0, omega arith, t.2))
 
-pub returns-in-Done : goal.returns-in-Done
-returns-in-Done c =
+pub returns-in-Break : goal.returns-in-Break
+returns-in-Break c =
     let file = c.args.file.now in
     let inv = c.records.invariant in
-    let t = one_turn file c.records.c (Ok (Done c.in-Done.places)) inv.3.0 (walked largest_file file) inv.3.1 inv.3.2 (let h = c.in_ok-next.ensures.answers in cc) in
-    proved file (Ok c.in-Done.places) c.type_inv.file t.2
+    let t = one_turn file c.records.c (Ok (Break c.in-Break.places)) inv.3.0 (walked largest_file file) inv.3.1 inv.3.2 (let h = c.in_ok-next.ensures.answers in cc) in
+    proved file (Ok c.in-Break.places) c.type_inv.file t.2
