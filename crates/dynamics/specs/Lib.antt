@@ -5,3 +5,4 @@ pub mod Step
 pub mod Pushes
 pub mod Soundness
 pub mod Balance
+pub mod States

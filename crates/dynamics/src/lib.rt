@@ -3,6 +3,8 @@
 
 mod laws;
 mod role;
+mod state;
 
 pub use laws::{moves_decide, step_keeps, steps_keep};
 pub use role::{Role, role_of};
+pub use state::State;

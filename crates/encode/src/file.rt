@@ -15,18 +15,18 @@ use twist::TwistSource;
 impl<'a, G: Gas, S: TwistSource> Held<'a, G, S> {
     /// Writes the file of the tunnel into the front of `out` and answers its length.
     pub fn write_file(&self, out: &mut [u8]) -> usize
-        requires { file_length (G.Gas.model self.now.gas.now) (self.now.grid.width * self.now.grid.height) ≤ length out.old }
-        ensures answer { result ≡ file_length (G.Gas.model self.now.gas.now) (self.now.grid.width * self.now.grid.height) }
+        requires { file_length (G.Gas.model self.now.state.now.gas) (self.now.state.now.grid.width * self.now.state.now.grid.height) ≤ length out.old }
+        ensures answer { result ≡ file_length (G.Gas.model self.now.state.now.gas) (self.now.state.now.grid.width * self.now.state.now.grid.height) }
         ensures written { out.new ≡ over (file_of (held G.Gas S.TwistSource self.now)) out.old }
     {
-        let cells = self.grid.cells();
+        let cells = self.state.grid.cells();
         let mut entries = [0u8; 256];
         let mut sheet = Sheet::new(out);
         put_record(2, &self.head_bytes(), &mut sheet);
-        put_record(3, rules_bytes(self.gas, &mut entries), &mut sheet);
+        put_record(3, rules_bytes(&self.state.gas, &mut entries), &mut sheet);
         put_record(4, &self.map[..cells], &mut sheet);
         put_record(5, &self.field[..cells], &mut sheet);
-        put_record(6, &book_bytes(self.book), &mut sheet);
+        put_record(6, &book_bytes(&self.state.book), &mut sheet);
         put_record(1, &[], &mut sheet);
         sheet.place()
     }

@@ -22,7 +22,8 @@ use Rattle.calls.specs.Calls.{blank_run, Opened, Advanced, Reported}
 use Rattle.calls.proofs.NoFaults.{reply-none, reply_some}
 use Rattle.calls.proofs.Openings.{file_rules, not_raised}
 use Rattle.calls.proofs.Unfaulted.{take-front, give, long_enough, advance_by_count, report_by_text}
-use Rattle.pairing.specs.Jobs.{longest_report, tunnel_after, report_of, work_fault, job_outcome}
+use Rattle.pairing.specs.Reports.{longest_report}
+use Rattle.pairing.specs.Jobs.{tunnel_after, report_of, work_fault, job_outcome}
 use Rattle.pairing.specs.Results.{length_of, out_after, Made}
 
 -- a reply as an outcome

@@ -10,10 +10,7 @@ use Rattle.job.specs.Jobs.{job_fault, parts_of, head_in, tunnel_in}
 use Rattle.report.specs.Reports.{snapshot, report_text}
 use Rattle.calls.specs.Grounds.{or_then, fault_if, raised, step_limit, patch_fits}
 use Rattle.calls.specs.Outcomes.{reply}
-
--- no report is longer
-abbrev pub longest_report : ℕ
-longest_report = 65536
+use Rattle.pairing.specs.Reports.{longest_report}
 
 -- the file's tunnel, k steps on, and its report
 abbrev pub tunnel_after : GasModel → TwistModel → ℕ → List ℕ → Tunnel

@@ -1,3 +1,4 @@
 pub mod Jobs
 pub mod Pairings
 pub mod Results
+pub mod Reports

@@ -2,19 +2,8 @@
 -- leaves the buffer as it was.
 use Rattle.std.specs.Prelude.{◌≡◌, ℕ, ◌≤◌, List, length, Ok, Err, Result}
 use Rattle.faults.specs.declared.call.CallFault.{CallFault}
-use Rattle.lattice.specs.Grids.{most_cells}
 use Rattle.step.specs.Results.{over}
-use Rattle.calls.specs.Grounds.{most_steps}
-use Rattle.pairing.specs.Jobs.{longest_report}
-
--- what a job is handed: a number of steps that `advance` takes, buffers for the largest grid, and an output as long as the longest report
-pub record Workable (steps : ℕ) (map field spare out : List ℕ) : Type 0 where
-  pub some : 1 ≤ steps
-  pub few : steps ≤ most_steps
-  pub map_room : most_cells ≤ length map
-  pub field_room : most_cells ≤ length field
-  pub spare_room : most_cells ≤ length spare
-  pub out_size : length out ≡ longest_report
+use Rattle.pairing.specs.declared.buffers.Buffers.{Buffers}
 
 abbrev pub length_of : Result (List ℕ) CallFault → Result ℕ CallFault
 length_of (Ok text) = Ok (length text)
@@ -27,3 +16,11 @@ out_after (Err f) out = out
 pub record Made (outcome : Result (List ℕ) CallFault) (out : List ℕ) (r : Result ℕ CallFault) (out' : List ℕ) : Type 0 where
   pub answer : r ≡ length_of outcome
   pub out_is : out' ≡ out_after outcome out
+
+-- the same of a job's buffers, which stay those that were lent
+pub record Works (outcome : Result (List ℕ) CallFault) (before : Buffers) (r : Result ℕ CallFault) (after : Buffers) : Type 0 where
+  pub made : Made outcome before.out.now r after.out.now
+  pub same_map : after.map.ghost_name ≡ before.map.ghost_name
+  pub same_field : after.field.ghost_name ≡ before.field.ghost_name
+  pub same_spare : after.spare.ghost_name ≡ before.spare.ghost_name
+  pub same_out : after.out.ghost_name ≡ before.out.ghost_name

@@ -10,7 +10,7 @@ use super::run::Run;
 use faults::CallFault;
 use gas::Gas;
 use lattice::states_of;
-use step::{Moment, take_steps};
+use step::take_steps;
 use twist::TwistSource;
 
 const MOST_STEPS: u32 = 65_535;
@@ -22,16 +22,16 @@ impl<G: Gas, S: TwistSource> Run<G, S> {
     fn judge_advance(&self, k: u32, map: &[u8], field: &[u8], spare: &[u8]) -> Result<(), CallFault>
         ensures { result ≡ reply (advance_fault (view G.Gas S.TwistSource self.now) k map.now field.now spare.now) tt }
     {
-        let cells = self.grid.cells();
+        let cells = self.state.grid.cells();
         judge_length(map, cells, CallFault::ShortMap)?;
         judge_length(field, cells, CallFault::ShortField)?;
         judge_length(spare, cells, CallFault::ShortSpare)?;
         judge_map(map, cells)?;
-        judge_field(field, cells, states_of(self.gas.channels()))?;
+        judge_field(field, cells, states_of(self.state.gas.channels()))?;
         if k == 0 || k > MOST_STEPS {
             return Err(CallFault::Argument(1));
         }
-        if self.steps + k > STEP_LIMIT {
+        if self.state.steps + k > STEP_LIMIT {
             return Err(CallFault::TooManySteps);
         }
         Ok(())
@@ -48,22 +48,7 @@ impl<G: Gas, S: TwistSource> Run<G, S> {
         ensures { Advanced (view G.Gas S.TwistSource self.old) k map.now field.old spare.old result (view G.Gas S.TwistSource self.new) field.new spare.new }
     {
         self.judge_advance(k, map, field, spare)?;
-        let moment = Moment {
-            grid: self.grid,
-            period: self.period,
-            step: self.steps,
-        };
-        take_steps(
-            &self.gas,
-            &mut self.source,
-            moment,
-            k,
-            map,
-            field,
-            spare,
-            &mut self.book,
-        );
-        self.steps += k;
-        Ok(self.steps)
+        take_steps(&mut self.state, k, map, field, spare);
+        Ok(self.state.steps)
     }
 }

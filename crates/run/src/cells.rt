@@ -37,29 +37,29 @@ impl<G: Gas, S: TwistSource> Run<G, S> {
 
     /// As `blank` leaves the run itself.
     fn restart(&mut self, grid: Grid)
-        ensures { view G.Gas S.TwistSource self.new ≡ blank_run (G.Gas.model self.old.gas) (S.TwistSource.model self.old.source) grid.width grid.height }
+        ensures { view G.Gas S.TwistSource self.new ≡ blank_run (G.Gas.model self.old.state.gas) (S.TwistSource.model self.old.state.source) grid.width grid.height }
     {
-        let first = self.source.first_mark();
-        self.gas.house();
-        let _ = self.source.set_mark(first);
-        self.grid = grid;
-        self.period = 0;
-        self.steps = 0;
-        self.book = Book::new();
+        let first = self.state.source.first_mark();
+        self.state.gas.house();
+        let _ = self.state.source.set_mark(first);
+        self.state.grid = grid;
+        self.state.period = 0;
+        self.state.steps = 0;
+        self.state.book = Book::new();
     }
 
     /// Makes the cell in this column and row of this kind: 0 open, 1 to 15 a wall of that obstacle, 16 a fan cell.
     pub fn paint(&self, column: u32, row: u32, kind: u32, map: &mut [u8]) -> Result<(), CallFault>
         ensures { Painted (view G.Gas S.TwistSource self.now) column row kind map.old result (view G.Gas S.TwistSource self.now) map.new }
     {
-        let cells = self.grid.cells();
+        let cells = self.state.grid.cells();
         judge_length(map, cells, CallFault::ShortMap)?;
         judge_map(map, cells)?;
-        let width = self.grid.width();
+        let width = self.state.grid.width();
         if column >= width {
             return Err(CallFault::Argument(1));
         }
-        if row >= self.grid.height() {
+        if row >= self.state.grid.height() {
             return Err(CallFault::Argument(2));
         }
         if kind > 16 {

@@ -9,7 +9,7 @@ ghost use Rattle.run.specs.View.{view};
 
 use super::judging::{judge_field, judge_length, judge_map};
 use super::run::Run;
-use encode::write_file;
+use encode::Held;
 use faults::CallFault;
 use gas::Gas;
 use lattice::states_of;
@@ -18,20 +18,20 @@ use twist::TwistSource;
 impl<G: Gas, S: TwistSource> Run<G, S> {
     /// How many bytes the run's file has.
     fn file_length(&self) -> usize
-        ensures { result ≡ file_length (G.Gas.model self.now.gas) (cell_count (view G.Gas S.TwistSource self.now)) }
+        ensures { result ≡ file_length (G.Gas.model self.now.state.gas) (cell_count (view G.Gas S.TwistSource self.now)) }
     {
-        320 + 2 * states_of(self.gas.channels()) + 2 * self.grid.cells()
+        320 + 2 * states_of(self.state.gas.channels()) + 2 * self.state.grid.cells()
     }
 
     /// The first ground on which `mark` is refused.
     fn judge_mark(&self, map: &[u8], field: &[u8], out: &[u8]) -> Result<(), CallFault>
         ensures { result ≡ reply (mark_fault (view G.Gas S.TwistSource self.now) map.now field.now out.now) tt }
     {
-        let cells = self.grid.cells();
+        let cells = self.state.grid.cells();
         judge_length(map, cells, CallFault::ShortMap)?;
         judge_length(field, cells, CallFault::ShortField)?;
         judge_map(map, cells)?;
-        judge_field(field, cells, states_of(self.gas.channels()))?;
+        judge_field(field, cells, states_of(self.state.gas.channels()))?;
         if out.len() < self.file_length() {
             return Err(CallFault::ShortOutput);
         }
@@ -43,23 +43,18 @@ impl<G: Gas, S: TwistSource> Run<G, S> {
         ensures { Marked (view G.Gas S.TwistSource self.now) map.now field.now out.old result (view G.Gas S.TwistSource self.now) out.new }
     {
         self.judge_mark(map, field, out)?;
-        Ok(write_file(
-            &self.gas,
-            &self.source,
-            self.grid,
-            self.period,
-            self.steps,
-            &self.book,
+        let held = Held {
+            state: &self.state,
             map,
             field,
-            out,
-        ))
+        };
+        Ok(held.write_file(out))
     }
 
     /// How large an output `mark` is to be given: what it needs, and at most 24 bytes more.
     pub fn size(&self) -> usize
-        ensures enough { file_length (G.Gas.model self.now.gas) (cell_count (view G.Gas S.TwistSource self.now)) ≤ result }
-        ensures near { result ≤ file_length (G.Gas.model self.now.gas) (cell_count (view G.Gas S.TwistSource self.now)) + 24 }
+        ensures enough { file_length (G.Gas.model self.now.state.gas) (cell_count (view G.Gas S.TwistSource self.now)) ≤ result }
+        ensures near { result ≤ file_length (G.Gas.model self.now.state.gas) (cell_count (view G.Gas S.TwistSource self.now)) + 24 }
     {
         (self.file_length() + 15) / 16 * 16
     }

@@ -10,7 +10,7 @@ use super::run::Run;
 use faults::CallFault;
 use gas::Gas;
 use lattice::states_of;
-use report::write_report;
+use report::Shown;
 use twist::TwistSource;
 
 const WIDEST_PATCH: u32 = 64;
@@ -20,13 +20,13 @@ impl<G: Gas, S: TwistSource> Run<G, S> {
     fn judge_patches(&self, b: u32, field: &[u8]) -> Result<(), CallFault>
         ensures { result ≡ reply (patch_fault (view G.Gas S.TwistSource self.now) b field.now) tt }
     {
-        let cells = self.grid.cells();
+        let cells = self.state.grid.cells();
         judge_length(field, cells, CallFault::ShortField)?;
-        judge_field(field, cells, states_of(self.gas.channels()))?;
+        judge_field(field, cells, states_of(self.state.gas.channels()))?;
         if b == 0 || b > WIDEST_PATCH {
             return Err(CallFault::Argument(1));
         }
-        if self.grid.width() % b != 0 || self.grid.height() % b != 0 {
+        if self.state.grid.width() % b != 0 || self.state.grid.height() % b != 0 {
             return Err(CallFault::Argument(1));
         }
         Ok(())
@@ -37,8 +37,11 @@ impl<G: Gas, S: TwistSource> Run<G, S> {
         ensures { Reported (view G.Gas S.TwistSource self.now) b field.now out.old result (view G.Gas S.TwistSource self.now) out.new }
     {
         self.judge_patches(b, field)?;
-        write_report(&self.gas, self.grid, self.steps, &self.book, field, b, out).ok_or(
-            CallFault::ShortOutput,
-        )
+        let shown = Shown {
+            state: &self.state,
+            field,
+            patch: b,
+        };
+        shown.write_report(out).ok_or(CallFault::ShortOutput)
     }
 }

@@ -5,6 +5,7 @@ ghost use Rattle.calls.specs.Calls.{blank_run, Fanned, Told};
 
 use super::run::Run;
 use book::{Account, Book};
+use dynamics::State;
 use faults::CallFault;
 use gas::Gas;
 use lattice::Grid;
@@ -19,14 +20,15 @@ impl<G: Gas, S: TwistSource> Run<G, S> {
         let mut source = source;
         gas.house();
         let _ = source.set_mark(source.first_mark());
-        Run {
+        let state = State {
             gas,
             source,
             grid: Grid::smallest(),
             period: 0,
             steps: 0,
             book: Book::new(),
-        }
+        };
+        Run { state }
     }
 
     /// Sets the fan's period; 0 stops it.
@@ -36,7 +38,7 @@ impl<G: Gas, S: TwistSource> Run<G, S> {
         if period > 999 {
             return Err(CallFault::Argument(1));
         }
-        self.period = period;
+        self.state.period = period;
         Ok(())
     }
 
@@ -47,6 +49,6 @@ impl<G: Gas, S: TwistSource> Run<G, S> {
         if n == 0 || n > 16 {
             return Err(CallFault::Argument(1));
         }
-        Ok(self.book.account(n as usize))
+        Ok(self.state.book.account(n as usize))
     }
 }

@@ -1,17 +1,13 @@
 -- After k steps a run stands where the tunnel k steps on stands, so the next step goes on from there.
 use Rattle.std.proofs.Common.{◌≡◌, ℕ, zero, suc, ◌+◌, ◌*◌, List, ◌++◌, length, take, drop, sym, refl, ap, ◌∙◌, subst, add-zero, add-suc, add-one, take-append-drop}
 use Rattle.std.proofs.lemmas.List.{take_at, drop_at}
-use Rattle.gas.specs.Model.{GasModel}
-use Rattle.twist.specs.Model.{TwistModel}
-use Rattle.lattice.specs.declared.vector.Vector.{Vector as Account}
-use Rattle.dynamics.specs.Tunnels.{Tunnel, cells}
+use Rattle.dynamics.specs.Tunnels.{RunState, Tunnel, cells}
 use Rattle.dynamics.specs.Step.{collided}
 use Rattle.dynamics.specs.Pushes.{stepped, after_steps}
 use Rattle.dynamics.specs.Soundness.{SoundTunnel}
 use Rattle.dynamics.proofs.Lists.{length-listed}
 use Rattle.dynamics.proofs.Whole.{steps_keep}
-use Rattle.step.specs.declared.moment.Moment.{Moment}
-use Rattle.step.specs.Scenes.{run_of, scene_of}
+use Rattle.step.specs.Scenes.{scene_of}
 use Rattle.step.specs.Results.{over}
 use Rattle.step.specs.Taken.{spare_after, Taken}
 
@@ -49,60 +45,38 @@ over-over xs ys buffer e = ap (λ (b : List ℕ). ys ++ b) (drop_at xs (drop (le
 pub over_own : (n : ℕ) (buffer : List ℕ) → length (take n buffer) ≡ n → buffer ≡ over (take n buffer) buffer
 over_own n buffer long = sym (take-append-drop n buffer) ∙ ap (λ (k : ℕ). take n buffer ++ drop k buffer) (sym long)
 
-abbrev pub at : Moment → ℕ → Moment
-at moment k = record { grid = moment.grid; period = moment.period; step = moment.step + k }
-
-module _ (g : GasModel) (e : List ℕ) (s : TwistModel) (m : ℕ) (moment : Moment) (book : List Account) (map field : List ℕ) where
+module _ (s : RunState) (map field : List ℕ) where
   abbrev whole : Tunnel
-  whole = scene_of (run_of g e s m moment book) map field
+  whole = scene_of s map field
 
   -- the tunnel that step k + 1 is handed
-  pub scene_again : SoundTunnel whole → (k : ℕ) (field' : List ℕ) (book' : List Account) (s' : TwistModel) (m' : ℕ)
-      → field' ≡ over (after_steps k whole).field field → book' ≡ (after_steps k whole).run.book → m' ≡ (after_steps k whole).run.mark → s' ≡ s
-      → scene_of (run_of g e s' m' (at moment k) book') map field' ≡ after_steps k whole
-  scene_again sound k field' book' s' m' fields books marks twists =
-      let n = moment.grid.width * moment.grid.height in
+  pub scene_again : SoundTunnel whole → (k : ℕ) (field' : List ℕ) (s' : RunState)
+      → field' ≡ over (after_steps k whole).field field → s' ≡ (after_steps k whole).run → scene_of s' map field' ≡ after_steps k whole
+  scene_again sound k field' s' fields runs =
       let kept = same k whole in
       let x = after_steps k whole in
-      let size : cells x.run ≡ n = λ j. kept.width j * kept.height j in
-      let long : length x.field ≡ n = (steps_keep k whole sound).sound.field_long ∙ size in
-      let cut : take n field' ≡ x.field = ap (take n) fields ∙ take_at x.field (drop (length x.field) field) n long in
-      λ j. record {
-        run = record {
-          gas = sym kept.gas j;
-          entries = sym kept.entries j;
-          twist = (twists ∙ sym kept.twist) j;
-          mark = marks j;
-          width = sym kept.width j;
-          height = sym kept.height j;
-          period = sym kept.period j;
-          steps = sym kept.steps j;
-          book = books j;
-        };
-        map = sym kept.map j;
-        field = cut j;
-      }
+      let size : cells x.run ≡ cells s = λ j. kept.width j * kept.height j in
+      let size' : cells s' ≡ cells s = ap cells runs ∙ size in
+      let long : length x.field ≡ cells s = (steps_keep k whole sound).sound.field_long ∙ size in
+      let cut : take (cells s') field' ≡ x.field =
+      ap (λ (n : ℕ). take n field') size' ∙ ap (take (cells s)) fields ∙ take_at x.field (drop (length x.field) field) (cells s) long in
+      let walls : take (cells s') map ≡ x.map = ap (λ (n : ℕ). take n map) size' ∙ sym kept.map in
+      λ j. record { run = runs j; map = walls j; field = cut j }
 
   -- one step more
-  pub taken_more : SoundTunnel whole → (k : ℕ) (spare spare' spare'' field' field'' : List ℕ) (book' book'' : List Account) (s' s'' : TwistModel) (m' m'' : ℕ)
-      → Taken whole k field field' spare spare' book' s' m'
-      → (let t = scene_of (run_of g e s' m' (at moment k) book') map field' in
-      (field'' ≡ over (stepped t).field field') × (spare'' ≡ over (collided t) spare') × (book'' ≡ (stepped t).run.book) × (m'' ≡ (stepped t).run.mark) × (s'' ≡ s'))
-      → Taken whole (k + 1) field field'' spare spare'' book'' s'' m''
-  taken_more sound k spare spare' spare'' field' field'' book' book'' s' s'' m' m'' old new =
-      let now = scene_again sound k field' book' s' m' old.field_is old.book_is old.mark_is old.twist_is in
+  pub taken_more : SoundTunnel whole → (k : ℕ) (spare spare' spare'' field' field'' : List ℕ) (s' s'' : RunState)
+      → Taken whole k field field' spare spare' s'
+      → (let t = scene_of s' map field' in (field'' ≡ over (stepped t).field field') × (spare'' ≡ over (collided t) spare') × (s'' ≡ (stepped t).run))
+      → Taken whole (k + 1) field field'' spare spare'' s''
+  taken_more sound k spare spare' spare'' field' field'' s' s'' old new =
+      let now = scene_again sound k field' s' old.field_is old.run_is in
       let long = (steps_keep k whole sound).sound.field_long in
       let fields : field'' ≡ over (after_steps (suc k) whole).field field =
       new.0 ∙ (λ j. over (stepped (now j)).field (old.field_is j))
       ∙ over-over (after_steps k whole).field (after_steps (suc k) whole).field field (long ∙ sym (length-listed (cells (after_steps k whole).run) _)) in
       let spares : spare'' ≡ spare_after (suc k) whole spare = new.1 ∙ (λ j. over (collided (now j)) (old.spare_is j)) ∙ spare_again k in
-      subst (λ (n : ℕ). Taken whole n field field'' spare spare'' book'' s'' m'') (sym (add-one k)) (record {
-        field_is = fields;
-        spare_is = spares;
-        book_is = new.2 ∙ ap (λ (t : Tunnel). (stepped t).run.book) now;
-        mark_is = new.3 ∙ ap (λ (t : Tunnel). (stepped t).run.mark) now;
-        twist_is = new.4 ∙ old.twist_is;
-      })
+      subst (λ (n : ℕ). Taken whole n field field'' spare spare'' s'') (sym (add-one k))
+      (record { field_is = fields; spare_is = spares; run_is = new.2 ∙ ap (λ (t : Tunnel). (stepped t).run) now })
     where
       spare_again : (k : ℕ) → over (collided (after_steps k whole)) (spare_after k whole spare) ≡ over (collided (after_steps k whole)) spare
       spare_again zero = refl

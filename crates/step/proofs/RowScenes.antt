@@ -1,17 +1,16 @@
 -- A row of the collision, seen in the whole tunnel.
-use Rattle.std.proofs.Common.{◌≡◌, ℕ, zero, suc, ◌+◌, ◌*◌, ◌<◌, ◌≤◌, Bool, true, false, cond, List, [], sym, ap, ◌∙◌, add-zero, add_assoc, add-suc, arith, get_or-take}
+use Rattle.std.proofs.Common.{◌≡◌, ℕ, zero, suc, ◌+◌, ◌*◌, ◌<◌, ◌≤◌, Bool, true, false, cond, List, sym, ap, ◌∙◌, add-zero, add_assoc, add-suc, arith, get_or-take}
 use Rattle.lattice.specs.Sums.{sum_n, count_n}
 use Rattle.lattice.proofs.Sums.{sum_n_bound, sum_n_same}
 use Rattle.lattice.proofs.Cells.{row_next, row_fits_lem, column_of_cell, row_of_cell}
-use Rattle.gas.specs.Model.{GasModel}
 use Rattle.twist.specs.Model.{TwistModel}
+use Rattle.dynamics.specs.Tunnels.{RunState, cells}
 use Rattle.dynamics.specs.Roles.{role_of}
 use Rattle.dynamics.specs.Step.{fan_acts, mark_at, collided_at}
 use Rattle.dynamics.specs.Pushes.{turns_at}
-use Rattle.step.specs.declared.moment.Moment.{Moment}
 use Rattle.step.specs.declared.cell.Collided.{Collided}
-use Rattle.step.specs.Rows.{cell_after, cell_in}
-use Rattle.step.specs.Scenes.{run_of, scene_of}
+use Rattle.step.specs.Rows.{cell_after, cell_in, asked}
+use Rattle.step.specs.Scenes.{scene_of}
 
 pub mark_at_add : (s : TwistModel) (m i j : ℕ) → mark_at s m (i + j) ≡ mark_at s (mark_at s m i) j
 mark_at_add s m i zero = ap (mark_at s m) (add-zero i)
@@ -29,35 +28,30 @@ cond_one b = elim b as (λ x. cond x 1 0 ≤ 1) [ true ↦ omega arith | false �
 pub count_few : (n : ℕ) (p : ℕ → Bool) → count_n n p ≤ n
 count_few n p = omega (arith, sum_n_bound n 1 (λ i. cond (p i) 1 0) (λ i l. cond_one (p i)))
 
-module _ (g : GasModel) (e : List ℕ) (s : TwistModel) (m : ℕ) (moment : Moment) (map field : List ℕ) where
+module _ (s : RunState) (map field : List ℕ) where
   -- the whole tunnel's view of cell i
   abbrev whole : ℕ → Collided
-  whole i = record {
-    state = collided_at (scene_of (run_of g e s m moment []) map field) i;
-    turned = turns_at (scene_of (run_of g e s m moment []) map field) i;
-  }
+  whole i = record { state = collided_at (scene_of s map field) i; turned = turns_at (scene_of s map field) i }
 
   -- column c of row r is cell r * w + c
-  pub in_whole : (r c : ℕ) → r < moment.grid.height → c < moment.grid.width
-      → cell_in g e s (mark_at s m (r * moment.grid.width)) moment r (r * moment.grid.width) map field c ≡ whole (r * moment.grid.width + c)
+  pub in_whole : (r c : ℕ) → r < s.height → c < s.width → cell_in (asked (r * s.width) s) r map field c ≡ whole (r * s.width + c)
   in_whole r c below within =
-      let w = moment.grid.width in
-      let n = w * moment.grid.height in
+      let w = s.width in
+      let n = cells s in
       let i = r * w + c in
-      let inside : i < n = omega (arith, row_fits_lem r w moment.grid.height below) in
-      let mark = sym (mark_at_add s m (r * w) c) in
+      let inside : i < n = omega (arith, row_fits_lem r w s.height below) in
+      let mark = sym (mark_at_add s.twist s.mark (r * w) c) in
       let column = sym (column_of_cell w c r within) in
       let row = sym (row_of_cell w c r within) in
       let byte = sym (get_or-take n map i 0 inside) in
       let state = sym (get_or-take n field i 0 inside) in
-      λ j. cell_after g e (fan_acts moment.period moment.step) (s.bit (mark j) moment.step (column j) (row j)) (role_of (byte j)) (state j)
+      λ j. cell_after s.gas s.entries (fan_acts s.period s.steps) (s.twist.bit (mark j) s.steps (column j) (row j)) (role_of (byte j)) (state j)
 
   -- the particles turned in the first r + 1 rows
-  pub count_rows : (r n : ℕ) → r < moment.grid.height
-      → n ≡ count_n moment.grid.width (λ c. (cell_in g e s (mark_at s m (r * moment.grid.width)) moment r (r * moment.grid.width) map field c).turned)
-      → count_n (r * moment.grid.width) (λ i. (whole i).turned) + n ≡ count_n ((r + 1) * moment.grid.width) (λ i. (whole i).turned)
+  pub count_rows : (r n : ℕ) → r < s.height → n ≡ count_n s.width (λ c. (cell_in (asked (r * s.width) s) r map field c).turned)
+      → count_n (r * s.width) (λ i. (whole i).turned) + n ≡ count_n ((r + 1) * s.width) (λ i. (whole i).turned)
   count_rows r n below is =
-      let w = moment.grid.width in
+      let w = s.width in
       let p : ℕ → ℕ = λ i. cond (whole i).turned 1 0 in
       ap (λ (k : ℕ). sum_n (r * w) p + k)
       (is ∙ sum_n_same w _ (λ c. p (r * w + c)) (λ c l. ap (λ (x : Collided). cond x.turned 1 0) (in_whole r c below l)))

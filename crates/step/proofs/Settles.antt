@@ -15,7 +15,7 @@ use Rattle.book.specs.Accounts.{accounts, none, grown, pushed}
 use Rattle.dynamics.specs.declared.role.Role.{Role}
 use Rattle.dynamics.specs.declared.role.Role.TheVariants.{Open, Wall, Fan}
 use Rattle.dynamics.specs.Roles.{role_of, is_wall_of}
-use Rattle.step.specs.Settling.{push_up_to, Settled, NoWall}
+use Rattle.step.specs.Settling.{push_up_to, Settled}
 
 pub same_account : (a b : Account) → a.along ≡ b.along → a.across ≡ b.across → a ≡ b
 same_account a b p q = let f : ℤ → ℤ → Account = λ x y. record { along = x; across = y } in ap₂ f p q
@@ -64,12 +64,13 @@ module _ (g : GasModel) (map field : List ℕ) where
   settled_skip old new i off was k l = skip_one old new i k (off (k + 1)) (was k l)
 
   -- so many cells without a wall
-  pub settled_clear : (old new : List Account) (i n : ℕ) → NoWall map i (i + n) → Settled g map field old new i → Settled g map field old new (i + n)
+  pub settled_clear : (old new : List Account) (i n : ℕ) → ((j : ℕ) → j < n → (k : ℕ) → is_wall_of k (role_of (get_or map (i + j) 0)) ≡ false)
+      → Settled g map field old new i → Settled g map field old new (i + n)
   settled_clear old new i zero off was = subst (Settled g map field old new) (sym (add-zero i)) was
   settled_clear old new i (suc n) off was =
-      let before = settled_clear old new i n (λ j l h. off j l (omega arith)) was in
+      let before = settled_clear old new i n (λ j l. off j (omega arith)) was in
       let at : i + n + 1 ≡ i + suc n = omega arith in
-      subst (Settled g map field old new) at (settled_skip old new (i + n) (off (i + n) (omega arith) (omega arith)) before)
+      subst (Settled g map field old new) at (settled_skip old new (i + n) (off n (omega arith)) before)
 
   -- a wall of obstacle n
   pub settled_more : (old new : List Account) (i n : ℕ) (v : Vector) → length new ≡ accounts → 1 ≤ n → n ≤ 15 → role_of (get_or map i 0) ≡ Wall n

@@ -1,6 +1,5 @@
 -- What the passes of one step make together.
 use Rattle.std.proofs.Common.{◌≡◌, ℕ, ◌+◌, ◌-◌, ◌*◌, ◌^◌, ◌<◌, ◌≤◌, Bool, true, false, cond, List, length, get_or, take, ℤ, pos, ◌*ℤ◌, nat_abs, sym, refl, ap, ◌∙◌, subst, inl, inr, arith, length-set, get_or-set_other, get_or-set_same}
-use native.Mathlib.Nat.{sub-zero}
 use Rattle.std.proofs.lemmas.List.FromFn.{fill_by_all}
 use Rattle.std.proofs.lemmas.Int.{ints}
 use Rattle.std.proofs.lemmas.Bool.{and_parts, leb-true, cases_eq}
@@ -89,14 +88,13 @@ modest book steps few fits k l =
     (omega arith, omega arith)
 
 -- the parts that are handed to the walls' pass
-pub cut_long : (n c : ℕ) (xs : List ℕ) → c ≡ n → length (take n xs) ≡ n → length (take (c - 0) xs) ≡ n
-cut_long n c xs e long = ap (λ (k : ℕ). length (take k xs)) (sub-zero c ∙ e) ∙ long
+pub cut_long : (n c : ℕ) (xs : List ℕ) → c ≡ n → length (take n xs) ≡ n → length (take c xs) ≡ n
+cut_long n c xs e long = ap (λ (k : ℕ). length (take k xs)) e ∙ long
 
 pub settled_cut : (g : GasModel) (n c : ℕ) (map field : List ℕ) (old new : List Account) → c ≡ n → length (take n map) ≡ n
-    → Settled g (take (c - 0) map) (take (c - 0) field) old new (length (take (c - 0) map)) → Settled g (take n map) (take n field) old new n
+    → Settled g (take c map) (take c field) old new (length (take c map)) → Settled g (take n map) (take n field) old new n
 settled_cut g n c map field old new e long settled =
-    let at : c - 0 ≡ n = sub-zero c ∙ e in
-    subst (λ (k : ℕ). Settled g (take n map) (take n field) old new k) long (subst (λ (k : ℕ). Settled g (take k map) (take k field) old new (length (take k map))) at settled)
+    subst (λ (k : ℕ). Settled g (take n map) (take n field) old new k) long (subst (λ (k : ℕ). Settled g (take k map) (take k field) old new (length (take k map))) e settled)
 
 -- the fan's account before its push
 pub fan_far : (t : Tunnel) (mid : List Account) → Settled t.run.gas t.map t.field t.run.book mid (cells t.run) → Modest t.run.book

@@ -18,11 +18,12 @@ pub struct Collided {
 fn bounce<G: Gas>(gas: &G, state: u8) -> u8
     ensures { result ≡ bounced (G.model gas.now) state }
 {
-    state_where(gas.channels(), |channel|
-        requires { channel < (G.model gas.now).channels }
-    {
-        held(state, gas.opposite(channel))
-    })
+    state_where(
+        gas.channels(),
+        |channel|
+            requires { channel < (G.model gas.now).channels }
+        { held(state, gas.opposite(channel)) },
+    )
 }
 
 /// Whether a particle comes against the fan, and east is empty.
@@ -37,11 +38,12 @@ fn turn<G: Gas>(gas: &G, state: u8) -> u8
     ensures { result ≡ turned_state (G.model gas.now) state }
 {
     let against = gas.opposite(0);
-    state_where(gas.channels(), |channel|
-        requires { channel < 8 }
-    {
-        channel == 0 || channel != against && held(state, channel)
-    })
+    state_where(
+        gas.channels(),
+        |channel|
+            requires { channel < 8 }
+        { channel == 0 || channel != against && held(state, channel) },
+    )
 }
 
 /// What the collision makes of a cell with this role and state.

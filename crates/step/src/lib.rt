@@ -2,14 +2,12 @@
 #![tactic(auto)]
 
 mod cell;
-mod moment;
 mod rows;
 mod settling;
 mod steps;
 mod streams;
 
 pub use cell::{Collided, collide_cell};
-pub use moment::Moment;
 pub use rows::{collide_rows, row_pass};
 pub use settling::{settle_fan, settle_walls};
 pub use steps::{step, take_steps};

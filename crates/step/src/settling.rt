@@ -31,14 +31,13 @@ fn counted(count: u32, number: i64) -> i64
     i64::from(count) * number
 }
 
-/// Whether no wall stands from `start` to `end`.
-fn is_clear(map: &[u8], start: usize, end: usize) -> bool
-    requires { (start ≤ end) × (end ≤ length map.now) }
-    ensures { result ≡ true → NoWall map.now start end }
+/// Whether no wall stands in these cells.
+fn is_clear(walls: &[u8]) -> bool
+    ensures { result ≡ true → NoWall walls.now }
 {
     let mut clear = true;
-    for place in start..end {
-        if let Role::Wall(_) = role_of(map[place]) {
+    for byte in walls {
+        if let Role::Wall(_) = role_of(*byte) {
             clear = false;
         }
     }
@@ -51,19 +50,17 @@ pub fn settle_walls<G: Gas>(gas: &G, map: &[u8], field: &[u8], book: &mut Book)
     requires modest { Modest book.old.accounts }
     ensures { Settled (G.model gas.now) map.now field.now book.old.accounts book.new.accounts (length map.now) }
 {
-    let mut place = 0;
-    while place < map.len() {
-        if place % STRETCH == 0
-            && place + STRETCH <= map.len()
-            && is_clear(map, place, place + STRETCH)
-        {
-            place += STRETCH;
-        } else {
-            if let Role::Wall(obstacle) = role_of(map[place]) {
-                let push = twice(gas.momentum(field[place]));
+    for stretch in 0..map.len().div_ceil(STRETCH) {
+        let start = stretch * STRETCH;
+        let walls = &map[start..map.len().min(start + STRETCH)];
+        if is_clear(walls) {
+            continue;
+        }
+        for (offset, byte) in walls.iter().enumerate() {
+            if let Role::Wall(obstacle) = role_of(*byte) {
+                let push = twice(gas.momentum(field[start + offset]));
                 book.push(obstacle as usize, push);
             }
-            place += 1;
         }
     }
 }

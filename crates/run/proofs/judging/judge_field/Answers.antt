@@ -1,4 +1,4 @@
-use Rattle.std.proofs.Common.{Some, None, leb, sym, ap, ◌∙◌}
+use Rattle.std.proofs.Common.{leb, sym, ap, ◌∙◌}
 use Rattle.lattice.proofs.Firsts.{position_take}
 use Rattle.faults.specs.declared.call.CallFault.TheVariants.{FieldByte}
 use Rattle.calls.specs.Grounds.{fault_at}

@@ -1,6 +1,7 @@
 use Rattle.std.proofs.Common.{◌≡◌, ℕ, ◌+◌, ◌*◌, ◌<◌, ◌≤◌, Bool, cond, length, get_or, sym, refl, ap, ◌∙◌, add-zero, add-one, arith, rules}
 use Rattle.lattice.proofs.Cells.{row_fits_lem}
 use Rattle.twist.specs.Model.{TwistModel}
+use Rattle.dynamics.specs.States.{state_of}
 use Rattle.dynamics.specs.Roles.{role_of}
 use Rattle.dynamics.specs.Step.{mark_at}
 use Rattle.step.specs.declared.cell.Collided.{Collided}
@@ -14,38 +15,34 @@ loop-column-init g c = (omega arith, row_none _ _, refl, refl)
 
 pub bounds-map-start : goal.bounds-map-start
 bounds-map-start g c =
-    let w = c.args.moment.grid.width in
+    let w = c.args.state.now.grid.width in
     let start : c.args.row * c.width-width.result ≡ c.args.row * w = ap (λ (x : ℕ). c.args.row * x) c.width-width.ensures.value in
-    omega (arith, row_fits_lem c.args.row w c.args.moment.grid.height c.requires.row, c.requires.map, c.loop-column-test.true, c.width-width.ensures.value)
+    omega (arith, row_fits_lem c.args.row w c.args.state.now.grid.height c.requires.row, c.requires.map, c.loop-column-test.true, c.width-width.ensures.value)
 
 pub bounds-field-start : goal.bounds-field-start
 bounds-field-start g c =
-    let w = c.args.moment.grid.width in
+    let w = c.args.state.now.grid.width in
     let start : c.args.row * c.width-width.result ≡ c.args.row * w = ap (λ (x : ℕ). c.args.row * x) c.width-width.ensures.value in
-    omega (arith, row_fits_lem c.args.row w c.args.moment.grid.height c.requires.row, c.requires.field, c.loop-column-test.true, c.width-width.ensures.value)
+    omega (arith, row_fits_lem c.args.row w c.args.state.now.grid.height c.requires.row, c.requires.field, c.loop-column-test.true, c.width-width.ensures.value)
 
 pub loop-column-preserved : goal.loop-column-preserved
 loop-column-preserved g c =
-    let m = g.G.Gas.model c.args.gas.now in
-    let e = g.G.Gas.entries c.args.gas.now in
-    let s = g.S.TwistSource.model c.args.source.now in
-    let k = g.S.TwistSource.mark c.args.source.now in
+    let s = state_of g.G.Gas g.S.TwistSource c.args.state.now in
     let i = c.loop-column.column in
     let row = c.args.row in
-    let step = c.args.moment.step in
     let map = c.args.map.now in
     let field = c.args.field.now in
     let inv = c.loop-column.invariant in
     let wide = c.width-width.ensures.value in
-    let cell : ℕ → Collided = cell_in m e s k c.args.moment row (row * c.args.moment.grid.width) map field in
-    let twist_is : c.ask-twist.result ≡ s.bit (mark_at s k i) step i row =
+    let cell : ℕ → Collided = cell_in s row map field in
+    let twist_is : c.ask-twist.result ≡ s.twist.bit (mark_at s.twist s.mark i) s.steps i row =
     c.ask-twist.ensures.answer
-    ∙ ap (λ (x : TwistModel). x.bit (g.S.TwistSource.mark c.loop-column.own) step i row) inv.3
-    ∙ ap (λ (x : ℕ). s.bit x step i row) inv.2 in
-    let role-is = c.role_of.ensures ∙ ap (λ (n : ℕ). role_of (get_or map (row * n + i) 0)) wide in
-    let state-is : get_or field (row * c.width-width.result + i) 0 ≡ get_or field (row * c.args.moment.grid.width + i) 0 = ap (λ (n : ℕ). get_or field (row * n + i) 0) wide in
+    ∙ ap (λ (x : TwistModel). x.bit (g.S.TwistSource.mark c.loop-column.source) s.steps i row) inv.3
+    ∙ ap (λ (x : ℕ). s.twist.bit x s.steps i row) inv.2 in
+    let role-is = c.role_of-role.ensures ∙ ap (λ (n : ℕ). role_of (get_or map (row * n + i) 0)) wide in
+    let state-is : get_or field (row * c.width-width.result + i) 0 ≡ get_or field (row * s.width + i) 0 = ap (λ (n : ℕ). get_or field (row * n + i) 0) wide in
     let cell-is : c.collide_cell-cell.result ≡ cell i =
-    c.collide_cell-cell.ensures ∙ (λ j. cell_after m e (c.fan_acts-acts.ensures j) (twist_is j) (role-is j) (state-is j)) in
+    c.collide_cell-cell.ensures ∙ (λ j. cell_after s.gas s.entries (c.fan_acts-acts.ensures j) (twist_is j) (role-is j) (state-is j)) in
     let count : c.if-cell.turned ≡ c.loop-column.turned + cond c.collide_cell-cell.result.turned 1 0 =
     elim c.if-cell.branch [
       | then-cell w ↦ w.turned-is ∙ ap (λ (b : Bool). c.loop-column.turned + cond b 1 0) (sym w.if-cell.true)
@@ -58,6 +55,7 @@ loop-column-preserved g c =
           (ap (λ (x : Collided). x.state) cell-is)
           (count ∙ ap (λ (x : Collided). c.loop-column.turned + cond x.turned 1 0) cell-is)
           inv.1,
-      c.ask-twist.ensures.moved ∙ ap (λ (x : TwistModel). x.next (g.S.TwistSource.mark c.loop-column.own)) inv.3 ∙ ap s.next inv.2 ∙ ap (mark_at s k) (sym (add-one i)),
+      c.ask-twist.ensures.moved ∙ ap (λ (x : TwistModel). x.next (g.S.TwistSource.mark c.loop-column.source)) inv.3 ∙ ap s.twist.next inv.2
+          ∙ ap (mark_at s.twist s.mark) (sym (add-one i)),
       c.ask-twist.ensures.same ∙ inv.3,
     )

@@ -1,5 +1,13 @@
-use Rattle.std.proofs.Common.{ℕ, ◌*◌, ◌≤◌, length, sym, ◌∙◌, subst, arith, rules}
-use Rattle.step.specs.Scenes.{run_of, scene_of}
+use Rattle.std.proofs.Common.{◌≡◌, ℕ, ◌+◌, ◌*◌, ◌^◌, ◌≤◌, List, length, get_or, pos, nat_abs, sym, ap, ◌∙◌, subst, arith, rules}
+use Rattle.lattice.specs.Vectors.{times}
+use Rattle.lattice.specs.declared.vector.Vector.{Vector as Account}
+use Rattle.gas.specs.Streaming.{arriving}
+use Rattle.book.specs.Accounts.{none, fan_account, pushed}
+use Rattle.dynamics.specs.Tunnels.{RunState, cells}
+use Rattle.dynamics.specs.States.{state_of}
+use Rattle.dynamics.specs.Pushes.{book_after}
+use Rattle.step.specs.Results.{Filled}
+use Rattle.step.specs.Scenes.{scene_of}
 use Rattle.step.proofs.Overlays.{take_long, filled_over}
 use Rattle.step.proofs.StepResults.{field_after, book_after_lem, fan_far, modest, cut_long, settled_cut}
 use Rattle.step.proofs.RowScenes.{count_few}
@@ -7,31 +15,32 @@ use Rattle.step.proofs.steps.step.Goals as goal
 
 pub slice_bounds-settle_walls-end : goal.slice_bounds-settle_walls-end
 slice_bounds-settle_walls-end g c =
-    let n = c.args.moment.grid.width * c.args.moment.grid.height in
+    let n = c.args.state.now.grid.width * c.args.state.now.grid.height in
     let long : n ≤ length c.args.map.now = take_long n c.args.map.now c.requires.sound.map_long in
     let fits : c.cells-cells.result ≤ length c.args.map.now = omega (arith, c.cells-cells.ensures.value) in
     search rules
 
 pub slice_bounds-settle_walls-end-2 : goal.slice_bounds-settle_walls-end-2
 slice_bounds-settle_walls-end-2 g c =
-    let n = c.args.moment.grid.width * c.args.moment.grid.height in
+    let n = c.args.state.now.grid.width * c.args.state.now.grid.height in
     let long : n ≤ length c.args.field.now = take_long n c.args.field.now c.requires.sound.field_long in
     let fits : c.cells-cells.result ≤ length c.args.field.now = omega (arith, c.cells-cells.ensures.value) in
     search rules
 
 pub settle_walls-requires : goal.settle_walls-requires
 settle_walls-requires g c =
-    let n = c.args.moment.grid.width * c.args.moment.grid.height in
+    let s = c.args.state.now in
+    let n = s.grid.width * s.grid.height in
     let map_long = cut_long n c.cells-cells.result c.args.map.now c.cells-cells.ensures.value c.requires.sound.map_long in
     let field_long = cut_long n c.cells-cells.result c.args.field.now c.cells-cells.ensures.value c.requires.sound.field_long in
     record {
       lengths = (map_long ∙ sym field_long, omega (arith, map_long, c.requires.sound.run.grid.few));
-      modest = modest c.args.book.now.accounts c.args.moment.step c.requires.steps c.requires.sound.run.book;
+      modest = modest s.book.accounts s.steps c.requires.steps c.requires.sound.run.book;
     }
 
 pub collide_rows-turned-requires : goal.collide_rows-turned-requires
 collide_rows-turned-requires g c =
-    let n = c.args.moment.grid.width * c.args.moment.grid.height in
+    let n = c.args.state.now.grid.width * c.args.state.now.grid.height in
     record {
       map = take_long n c.args.map.now c.requires.sound.map_long;
       field = take_long n c.args.field.now c.requires.sound.field_long;
@@ -40,42 +49,59 @@ collide_rows-turned-requires g c =
 
 pub stream_rows-requires : goal.stream_rows-requires
 stream_rows-requires g c =
-    let n = c.args.moment.grid.width * c.args.moment.grid.height in
-    record {
-      from = omega (arith, c.requires.spare, c.collide_rows-turned.auto.spare);
-      field = take_long n c.args.field.now c.requires.sound.field_long;
-    }
+    let n = c.args.state.now.grid.width * c.args.state.now.grid.height in
+    let size : c.collide_rows-turned.new.state.grid.width * c.collide_rows-turned.new.state.grid.height ≡ n = ap cells c.collide_rows-turned.ensures.run in
+    let long = take_long n c.args.field.now c.requires.sound.field_long in
+    record { from = omega (arith, c.requires.spare, c.collide_rows-turned.auto.spare, size); field = omega (arith, long, size) }
 
 pub settle_fan-requires : goal.settle_fan-requires
 settle_fan-requires g c =
-    let m = g.G.Gas.model c.args.gas.now in
-    let n = c.args.moment.grid.width * c.args.moment.grid.height in
+    let s = state_of g.G.Gas g.S.TwistSource c.args.state.now in
+    let n = cells s in
     let map = c.args.map.now in
     let field = c.args.field.now in
-    let t = scene_of (run_of m (g.G.Gas.entries c.args.gas.now) (g.S.TwistSource.model c.args.source.now) (g.S.TwistSource.mark c.args.source.now) c.args.moment c.args.book.now.accounts) map field in
+    let t = scene_of s map field in
     let sound = c.requires.sound in
     let few : c.collide_rows-turned.result ≤ n = subst (λ (k : ℕ). k ≤ n) (sym c.collide_rows-turned.ensures.all.turned) (count_few n _) in
     let far = fan_far t c.settle_walls.new.book.accounts
-    (settled_cut m n c.cells-cells.result map field c.args.book.now.accounts c.settle_walls.new.book.accounts c.cells-cells.ensures.value sound.map_long c.settle_walls.ensures)
-    (modest c.args.book.now.accounts c.args.moment.step c.requires.steps sound.run.book) in
-    record { turned = omega (arith, few, sound.run.grid.few); along = far.0; across = far.1 }
+    (settled_cut s.gas n c.cells-cells.result map field s.book c.settle_walls.new.book.accounts c.cells-cells.ensures.value sound.map_long c.settle_walls.ensures)
+    (modest s.book s.steps c.requires.steps sound.run.book) in
+    let books = sym (ap (λ (x : RunState). x.book) c.collide_rows-turned.ensures.run) in
+    record {
+      turned = omega (arith, few, sound.run.grid.few);
+      along = subst (λ (b : List Account). nat_abs (get_or b 15 none).along ≤ 2 ^ 61) books far.0;
+      across = subst (λ (b : List Account). nat_abs (get_or b 15 none).across ≤ 2 ^ 61) books far.1;
+    }
 
 pub returns : goal.returns
 returns g c =
-    let m = g.G.Gas.model c.args.gas.now in
-    let n = c.args.moment.grid.width * c.args.moment.grid.height in
+    let s = state_of g.G.Gas g.S.TwistSource c.args.state.now in
+    let n = cells s in
     let map = c.args.map.now in
     let field = c.args.field.now in
-    let t = scene_of (run_of m (g.G.Gas.entries c.args.gas.now) (g.S.TwistSource.model c.args.source.now) (g.S.TwistSource.mark c.args.source.now) c.args.moment c.args.book.now.accounts) map field in
+    let t = scene_of s map field in
     let sound = c.requires.sound in
     let all = c.collide_rows-turned.ensures.all in
+    let same = c.collide_rows-turned.ensures.run in
+    let spare = c.collide_rows-turned.new.spare in
     let fits = take_long n field sound.field_long in
+    let moves = subst (λ (x : RunState). Filled (cells x) (arriving x.gas x.width x.height spare) field c.stream_rows.new.field) same c.stream_rows.ensures in
+    let books : c.settle_fan.new.book.accounts ≡ book_after t = book_after_lem t c.settle_walls.new.book.accounts c.settle_fan.new.book.accounts c.collide_rows-turned.result c.settle_walls.new.book.full
+    (settled_cut s.gas n c.cells-cells.result map field s.book c.settle_walls.new.book.accounts c.cells-cells.ensures.value sound.map_long c.settle_walls.ensures)
+    all.turned
+    (c.settle_fan.ensures ∙ ap (λ (x : RunState). pushed x.book fan_account (times (pos 2) (times (pos c.collide_rows-turned.result) (x.gas.vector 0)))) same) in
     record {
-      field = field_after t sound c.args.spare.now c.collide_rows-turned.new.spare field c.stream_rows.new.field fits c.stream_rows.auto.field all.spare c.stream_rows.ensures;
-      spare = filled_over n _ c.args.spare.now c.collide_rows-turned.new.spare c.requires.spare c.collide_rows-turned.auto.spare all.spare;
-      book = book_after_lem t c.settle_walls.new.book.accounts c.settle_fan.new.book.accounts c.collide_rows-turned.result c.settle_walls.new.book.full
-          (settled_cut m n c.cells-cells.result map field c.args.book.now.accounts c.settle_walls.new.book.accounts c.cells-cells.ensures.value sound.map_long c.settle_walls.ensures)
-          all.turned c.settle_fan.ensures;
-      mark = c.collide_rows-turned.ensures.mark;
-      same = c.collide_rows-turned.ensures.same;
+      field = field_after t sound c.args.spare.now spare field c.stream_rows.new.field fits c.stream_rows.auto.field all.spare moves;
+      spare = filled_over n _ c.args.spare.now spare c.requires.spare c.collide_rows-turned.auto.spare all.spare;
+      run = λ j. record {
+        gas = (same j).gas;
+        entries = (same j).entries;
+        twist = (same j).twist;
+        mark = (same j).mark;
+        width = (same j).width;
+        height = (same j).height;
+        period = (same j).period;
+        steps = (same j).steps + 1;
+        book = books j;
+      };
     }

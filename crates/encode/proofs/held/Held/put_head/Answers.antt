@@ -10,5 +10,5 @@ returns g c =
     (adds_then (adds_same (c.two_bytes.ensures ∙ ap (λ (n : ℕ). le 2 n) c.width.ensures.value) c.put_bytes-2.ensures)
     (adds_then (adds_same (c.two_bytes-2.ensures ∙ ap (λ (n : ℕ). le 2 n) c.height.ensures.value) c.put_bytes-3.ensures)
     (adds_then (adds_same c.two_bytes-3.ensures c.put_bytes-4.ensures)
-    (adds_then (adds_same (c.to_le_bytes.ensures ∙ le_4 c.args.self.now.steps) c.put_bytes-5.ensures)
+    (adds_then (adds_same (c.to_le_bytes.ensures ∙ le_4 c.args.self.now.state.now.steps) c.put_bytes-5.ensures)
     (adds_same (c.to_le_bytes-2.ensures ∙ le_4 c.tell_mark.result ∙ ap (λ (n : ℕ). le 4 n) c.tell_mark.ensures) c.put_bytes-6.ensures)))))

@@ -1,9 +1,10 @@
-use Rattle.std.proofs.Common.{◌≡◌, ℕ, ◌+◌, true, List, get_or, Some, None, Err, Option, Result, sym, ap, ◌∙◌, subst, arith}
+use Rattle.std.proofs.Common.{◌≡◌, ℕ, ◌+◌, ◌≤◌, true, List, Some, None, Ok, Err, Option, Result, sym, ap, ◌∙◌, subst, arith}
 use Rattle.std.proofs.lemmas.Result.{err_from_is_err_and}
 use Rattle.faults.specs.declared.call.CallFault.{CallFault}
 use Rattle.lattice.proofs.Cells.{lawful_grid}
-use Rattle.book.specs.Accounts.{none, account_fits, book_fits}
+use Rattle.book.specs.Accounts.{book_fits}
 use Rattle.book.proofs.Ranges.{fits_at, fits_all}
+use Rattle.dynamics.specs.Tunnels.{RunState}
 use Rattle.dynamics.specs.Pushes.{after_steps}
 use Rattle.dynamics.specs.Soundness.{SoundRun, SoundTunnel}
 use Rattle.dynamics.proofs.Whole.{steps_keep}
@@ -27,13 +28,13 @@ sound_advance g run k map field spare unfaulted =
     let s = view g.G.Gas g.S.TwistSource run in
     let ok = allowed s k map field spare unfaulted in
     let sound : SoundRun s = record {
-      gas = g.met.G.Gas.lawful run.gas;
-      entries = g.met.G.Gas.sound run.gas;
-      twist = g.met.S.TwistSource.lawful run.source;
-      mark = g.met.S.TwistSource.marked run.source;
-      grid = lawful_grid run.grid;
-      book_long = run.book.full;
-      book = λ n l. fits_at run.steps run.book.accounts run.ranged n (omega (arith, run.book.full));
+      gas = g.met.G.Gas.lawful run.state.gas;
+      entries = g.met.G.Gas.sound run.state.gas;
+      twist = g.met.S.TwistSource.lawful run.state.source;
+      mark = g.met.S.TwistSource.marked run.state.source;
+      grid = lawful_grid run.state.grid;
+      book_long = run.state.book.full;
+      book = λ n l. fits_at run.state.steps run.state.book.accounts run.ranged n (omega (arith, run.state.book.full));
     } in
     sound_scene s sound map field ok.map_long ok.field_long ok.map_in ok.field_in
 
@@ -75,12 +76,16 @@ invariant_of-self g c =
     let spare = c.args.spare.now in
     let unfaulted = reply-none (advance_fault s k map field spare) tt tt c.in_ok-judge_advance.ensures in
     let t = scene_of s map field in
-    let kept = (steps_keep k t (sound_advance g run k map field spare unfaulted)).sound.run in
-    let fits : book_fits (run.steps + k) (after_steps k t).run.book ≡ true =
-    fits_all (run.steps + k) (after_steps k t).run.book (λ n l.
-    subst (λ (m : ℕ). account_fits m (get_or (after_steps k t).run.book n none) ≡ true) (same k t).steps (kept.book n (omega (arith, kept.book_long)))) in
-    let books = c.take_steps.ensures.book_is in
-    record { slow = run.slow; few = (allowed s k map field spare unfaulted).few; ranged = subst (λ b. book_fits (run.steps + k) b ≡ true) (sym books) fits }
+    let after = (after_steps k t).run in
+    let kept = same k t in
+    let sound = (steps_keep k t (sound_advance g run k map field spare unfaulted)).sound.run in
+    let is = sym c.take_steps.ensures.run_is in
+    let few : after.steps ≤ 1000000000 = subst (λ (n : ℕ). n ≤ 1000000000) (sym kept.steps) (allowed s k map field spare unfaulted).few in
+    record {
+      slow = subst (λ (r : RunState). r.period ≤ 999) is (subst (λ (n : ℕ). n ≤ 999) (sym kept.period) run.slow);
+      few = subst (λ (r : RunState). r.steps ≤ 1000000000) is few;
+      ranged = subst (λ (r : RunState). book_fits r.steps r.book ≡ true) is (fits_all after.steps after.book (λ n l. sound.book n (omega (arith, sound.book_long))));
+    }
 
 pub returns : goal.returns
 returns g c =
@@ -91,22 +96,11 @@ returns g c =
     let spare = c.args.spare.now in
     let unfaulted : advance_fault s k map field spare ≡ None = reply-none _ tt tt c.in_ok-judge_advance.ensures in
     let t = scene_of s map field in
-    let kept = same k t in
     let taken = c.take_steps.ensures in
-    let after : record { gas = s.gas; entries = s.entries; twist = g.S.TwistSource.model c.take_steps.new.source; mark = g.S.TwistSource.mark c.take_steps.new.source; width = s.width; height = s.height; period = s.period; steps = s.steps + k; book = c.take_steps.new.book.accounts } ≡ (after_steps k t).run = λ j. record {
-      gas = sym kept.gas j;
-      entries = sym kept.entries j;
-      twist = (taken.twist_is ∙ sym kept.twist) j;
-      mark = taken.mark_is j;
-      width = sym kept.width j;
-      height = sym kept.height j;
-      period = sym kept.period j;
-      steps = sym kept.steps j;
-      book = taken.book_is j;
-    } in
+    let steps : c.take_steps.new.state.steps ≡ s.steps + k = ap (λ (r : RunState). r.steps) taken.run_is ∙ (same k t).steps in
     record {
-      answer = ap (λ (o : Option CallFault). reply o (s.steps + k)) (sym unfaulted);
-      run = after ∙ ap (λ (o : Option CallFault). leaves o s (after_steps k t).run) (sym unfaulted);
+      answer = ap Ok steps ∙ ap (λ (o : Option CallFault). reply o (s.steps + k)) (sym unfaulted);
+      run = taken.run_is ∙ ap (λ (o : Option CallFault). leaves o s (after_steps k t).run) (sym unfaulted);
       field_is = taken.field_is ∙ ap (λ (o : Option CallFault). leaves o field (over (after_steps k t).field field)) (sym unfaulted);
       spare_is = taken.spare_is ∙ ap (λ (o : Option CallFault). leaves o spare (spare_after k t spare)) (sym unfaulted);
     }

@@ -6,7 +6,7 @@ use Rattle.run.proofs.run.Run.paint.Goals as goal
 
 pub bounds-map-row : goal.bounds-map-row
 bounds-map-row g c =
-    let grid = c.args.self.now.grid in
+    let grid = c.args.self.now.state.grid in
     let start : c.args.row * c.width-width.result ≡ c.args.row * grid.width = ap (λ (w : ℕ). c.args.row * w) c.width-width.ensures.value in
     let within = cell_below grid.width grid.height c.args.column c.args.row
     (omega (arith, c.if-column-width.false, c.width-width.ensures.value)) (omega (arith, c.if-row-height.false, c.height.ensures.value)) in
