@@ -1,4 +1,5 @@
 // The lines of a report, put on a sheet field by field.
+// Not by write! and Display: std tells nothing of what these leave after an Err, and a report answers exactly and cannot fail for memory.
 ghost use Rattle.text.specs.Sheets.{Adds};
 ghost use Rattle.report.specs.Lines.{step_line, vector_end, totals_end, patch_line, total_line};
 

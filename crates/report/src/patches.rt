@@ -49,6 +49,7 @@ impl<'a, G: Gas, S: TwistSource> Shown<'a, G, S> {
     }
 
     /// The patch in this column and row of patches.
+    #[tactic(auto, using(crate::proofs::Stretches::patch_fits_lem))]
     fn patch_at(&self, column: u32, row: u32) -> Patch
         requires column { column < self.now.state.now.grid.width / self.now.patch }
         requires row { row < self.now.state.now.grid.height / self.now.patch }
