@@ -1,30 +1,14 @@
 // Each payload is judged for its length, and then byte by byte: rules, map, field and end.
 ghost use Rattle.std.specs.Prelude.{◌≡◌, ℕ, ◌*◌, length};
 ghost use Rattle.records.specs.Layout.{Inside, part};
-ghost use Rattle.job.specs.Grounds.{length_fault, rules_fault, first_above, first_from, map_fault, field_fault, end_fault};
+ghost use Rattle.job.specs.Grounds.{length_fault, rules_fault, map_fault, field_fault, end_fault};
 ghost use Rattle.job.specs.Outcomes.{judgment};
 
+use dynamics::HIGHEST_MAP_BYTE;
 use faults::JobFault;
 use gas::{Gas, TableFault};
-use lattice::states_of;
+use lattice::{first_from, states_of};
 use records::Place;
-
-/// No map byte is higher.
-const HIGHEST_MAP_BYTE: u8 = 16;
-
-/// The first byte above a limit.
-fn first_above(bytes: &[u8], limit: u8) -> Option<usize>
-    ensures { result ≡ first_above limit bytes.now }
-{
-    bytes.iter().position(|byte| *byte > limit)
-}
-
-/// The first byte from a limit on.
-fn first_from(bytes: &[u8], limit: usize) -> Option<usize>
-    ensures { result ≡ first_from limit bytes.now }
-{
-    bytes.iter().position(|byte| usize::from(*byte) >= limit)
-}
 
 /// A payload, and the number of its record.
 #[derive(Clone, Copy)]
@@ -72,7 +56,7 @@ impl<'a> Payload<'a> {
         ensures { result ≡ judgment (map_fault cells self.now.number self.now.bytes.now) }
     {
         self.judge_length(cells)?;
-        match first_above(self.bytes, HIGHEST_MAP_BYTE) {
+        match first_from(self.bytes, HIGHEST_MAP_BYTE as usize + 1) {
             Some(place) => Err(JobFault::MapByte(self.number, place)),
             None => Ok(()),
         }

@@ -1,6 +1,7 @@
 // The grid, its cells, and the vectors and states that stand in them.
 #![tactic(auto)]
 
+mod bytes;
 mod fault;
 mod grid;
 mod grids;
@@ -9,6 +10,7 @@ mod ring;
 mod rows;
 mod vector;
 
+pub use bytes::first_from;
 pub use fault::GridFault;
 pub use grid::Grid;
 pub use places::{one_back, one_on};

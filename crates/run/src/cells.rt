@@ -5,11 +5,12 @@ ghost use Rattle.run.specs.View.{view};
 ghost use Rattle.calls.specs.Calls.{blank_run, Blanked, Painted};
 ghost use Rattle.calls.specs.Law.{LogLaw};
 
-use super::judging::{grid_fault, judge_length, judge_map};
+use super::judging::{judge_length, judge_map};
 use super::run::Run;
 use book::Book;
 use faults::CallFault;
 use gas::Gas;
+use job::grid_fault;
 use lattice::Grid;
 use twist::TwistSource;
 
@@ -25,7 +26,7 @@ impl<G: Gas, S: TwistSource> Run<G, S> {
         ensures outcome { Blanked (view G.Gas S.TwistSource self.old) width height map.old field.old result (view G.Gas S.TwistSource self.new) map.new field.new }
         ensures law { result ≡ Ok tt → LogLaw (record { run = view G.Gas S.TwistSource self.new; map = map.new; field = field.new }) }
     {
-        let grid = Grid::new(width, height).map_err(grid_fault)?;
+        let grid = Grid::new(width, height).map_err(|fault| grid_fault(0, fault))?;
         let cells = grid.cells();
         judge_length(map, cells, CallFault::ShortMap)?;
         judge_length(field, cells, CallFault::ShortField)?;
