@@ -7,7 +7,6 @@ use Rattle.faults.specs.declared.call.CallFault.{CallFault}
 use Rattle.faults.specs.declared.call.CallFault.TheVariants.{Job}
 use Rattle.records.specs.declared.payloads.Places.{Places}
 use Rattle.records.specs.Walk.{walked, largest_file}
-use Rattle.front.specs.declared.first_line.FirstLine.{FirstLine}
 use Rattle.front.specs.FirstLine.{first_line}
 use Rattle.front.specs.Lines.{refused_line, records_line}
 
@@ -24,7 +23,7 @@ abbrev pub passed_up : Result ℕ JobFault → Result ℕ CallFault
 passed_up (Ok n) = Ok n
 passed_up (Err f) = Err (Job f)
 
-abbrev pub judged_from : Result (FirstLine × List ℕ) CallFault → Result ℕ CallFault
+abbrev pub judged_from : Result ((ℕ × ℕ) × List ℕ) CallFault → Result ℕ CallFault
 judged_from (Err f) = Err f
 judged_from (Ok (line, file)) = passed_up (records_in file)
 

@@ -5,7 +5,6 @@
 use Rattle.std.specs.Prelude.{ℕ, ◌+◌, List, [], take, drop, position, Some, None, Ok, Err, Option, Result, ◌==◌}
 use Rattle.faults.specs.declared.call.CallFault.{CallFault}
 use Rattle.faults.specs.declared.call.CallFault.TheVariants.{Argument}
-use Rattle.front.specs.declared.first_line.FirstLine.{FirstLine}
 use Rattle.front.specs.Numbers.{number_up_to}
 
 -- where the byte b stands first
@@ -46,11 +45,11 @@ abbrev pub file_text : List ℕ → Option (List ℕ)
 file_text input = rest_behind (place_of 10 input) input
 
 -- what the line asks for and the file behind it, from the number of steps, that of the patch's cells and the file
-abbrev pub line_judged : Option ℕ → Option ℕ → Option (List ℕ) → Result (FirstLine × List ℕ) CallFault
+abbrev pub line_judged : Option ℕ → Option ℕ → Option (List ℕ) → Result ((ℕ × ℕ) × List ℕ) CallFault
 line_judged None patch file = Err (Argument 1)
 line_judged (Some k) None file = Err (Argument 2)
 line_judged (Some k) (Some b) None = Err (Argument 2)
-line_judged (Some k) (Some b) (Some bytes) = Ok (record { steps = k; patch = b }, bytes)
+line_judged (Some k) (Some b) (Some bytes) = Ok ((k, b), bytes)
 
-abbrev pub first_line : List ℕ → Result (FirstLine × List ℕ) CallFault
+abbrev pub first_line : List ℕ → Result ((ℕ × ℕ) × List ℕ) CallFault
 first_line input = line_judged (number_up_to most_steps (steps_text input)) (number_up_to widest_patch (patch_text input)) (file_text input)

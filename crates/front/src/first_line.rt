@@ -1,5 +1,5 @@
 // The first line: how many steps, and how wide the patches are.
-ghost use Rattle.std.specs.Prelude.{◌≡◌, ℕ, ◌≤◌, Some, None, Ok, Err, IfOk, MatchOption, MatchResult};
+ghost use Rattle.std.specs.Prelude.{◌≡◌, ℕ, ◌≤◌, Some, None, Ok, Err, MatchOption, MatchResult};
 ghost use Rattle.front.specs.FirstLine.{place_of, before, rest_behind, first_line};
 
 use super::number::number_up_to;
@@ -9,11 +9,13 @@ const MOST_STEPS: u32 = 65_535;
 
 const WIDEST_PATCH: u32 = 64;
 
-/// What the first line asks for.
-#[derive(Clone, Copy, Debug, PartialEq, Eq, Hash)]
+/// What the first line asks for: how many steps to take, and how wide the patches of the report are.
+#[derive(Clone, Copy, Debug)]
 pub struct FirstLine {
     pub steps: u32,
     pub patch: u32,
+    ghost some: { 1 ≤ steps },
+    ghost few: { steps ≤ 65535 },
 }
 
 /// Where the byte stands first.
@@ -36,9 +38,7 @@ fn parted(byte: u8, bytes: &[u8]) -> (&[u8], Option<&[u8]>)
 
 /// Judges the first line of the program's input, and hands on the job file behind it.
 pub fn read_first_line(input: &[u8]) -> Result<(FirstLine, &[u8]), CallFault>
-    ensures answer { MatchResult result (λ read. first_line input.now ≡ Ok (read.0, read.1.now)) (λ fault. first_line input.now ≡ Err fault) }
-    ensures some { IfOk result (λ read. 1 ≤ read.0.steps) }
-    ensures few { IfOk result (λ read. read.0.steps ≤ 65535) }
+    ensures { MatchResult result (λ read. first_line input.now ≡ Ok ((read.0.steps, read.0.patch), read.1.now)) (λ fault. first_line input.now ≡ Err fault) }
 {
     let (line, file) = parted(b'\n', input);
     let (steps_text, patch_text) = parted(b' ', line);

@@ -4,8 +4,8 @@ ghost use Rattle.pairing.specs.Pairings.{foreign, chosen, chosen_on};
 ghost use Rattle.pairing.specs.Results.{Workable, Made};
 
 use super::jobs::work;
-use super::orders::Order;
 use faults::{CallFault, JobFault};
+use front::FirstLine;
 use gas::Gas;
 use hexagonal::HexagonalGas;
 use square::SquareGas;
@@ -24,7 +24,7 @@ fn is_foreign(outcome: &Result<usize, CallFault>) -> bool
 /// Works the job on this gas with parity, and with the register if it is foreign to that.
 fn work_on<G: Gas + Copy>(
     gas: G,
-    order: Order,
+    line: FirstLine,
     file: &[u8],
     map: &mut [u8],
     field: &mut [u8],
@@ -32,19 +32,19 @@ fn work_on<G: Gas + Copy>(
     out: &mut [u8],
 ) -> Result<usize, CallFault>
     requires { Workable map.old field.old spare.old out.old }
-    ensures { Made (chosen_on (G.Gas.model gas) order.steps order.patch file.now) out.old result out.new }
+    ensures { Made (chosen_on (G.Gas.model gas) line.steps line.patch file.now) out.old result out.new }
 {
-    let by_parity = work(gas, Parity, order, file, map, field, spare, out);
+    let by_parity = work(gas, Parity, line, file, map, field, spare, out);
     if !is_foreign(&by_parity) {
         return by_parity;
     }
     let register = Register::new();
-    work(gas, register, order, file, map, field, spare, out)
+    work(gas, register, line, file, map, field, spare, out)
 }
 
 /// Tries the square gas, then the hexagonal, each with parity and then the register: the first that is not foreign answers, or the last.
 pub fn choose(
-    order: Order,
+    line: FirstLine,
     file: &[u8],
     map: &mut [u8],
     field: &mut [u8],
@@ -52,12 +52,12 @@ pub fn choose(
     out: &mut [u8],
 ) -> Result<usize, CallFault>
     requires { Workable map.old field.old spare.old out.old }
-    ensures { Made (chosen order.steps order.patch file.now) out.old result out.new }
+    ensures { Made (chosen line.steps line.patch file.now) out.old result out.new }
 {
-    let on_square = work_on(SquareGas::new(), order, file, map, field, spare, out);
+    let on_square = work_on(SquareGas::new(), line, file, map, field, spare, out);
     if !is_foreign(&on_square) {
         return on_square;
     }
     let hexagonal = HexagonalGas::new();
-    work_on(hexagonal, order, file, map, field, spare, out)
+    work_on(hexagonal, line, file, map, field, spare, out)
 }

@@ -3,8 +3,8 @@ ghost use Rattle.std.specs.Prelude.{◌≡◌};
 ghost use Rattle.pairing.specs.Jobs.{job_outcome};
 ghost use Rattle.pairing.specs.Results.{Workable, Made};
 
-use super::orders::Order;
 use faults::CallFault;
+use front::FirstLine;
 use gas::Gas;
 use run::Run;
 use twist::TwistSource;
@@ -20,7 +20,7 @@ pub const LONGEST_REPORT: usize = 65_536;
 pub fn work<G: Gas + Drop, S: TwistSource>(
     gas: G,
     source: S,
-    order: Order,
+    line: FirstLine,
     file: &[u8],
     map: &mut [u8],
     field: &mut [u8],
@@ -28,10 +28,10 @@ pub fn work<G: Gas + Drop, S: TwistSource>(
     out: &mut [u8],
 ) -> Result<usize, CallFault>
     requires { Workable map.old field.old spare.old out.old }
-    ensures { Made (job_outcome (G.Gas.model gas) (S.TwistSource.model source) order.steps order.patch file.now) out.old result out.new }
+    ensures { Made (job_outcome (G.Gas.model gas) (S.TwistSource.model source) line.steps line.patch file.now) out.old result out.new }
 {
     let mut run = Run::new(gas, source);
     run.open(file, map, field)?;
-    run.advance(order.steps, map, field, spare)?;
-    run.report(order.patch, field, out)
+    run.advance(line.steps, map, field, spare)?;
+    run.report(line.patch, field, out)
 }

@@ -3,8 +3,6 @@
 
 mod choice;
 mod jobs;
-mod orders;
 
 pub use choice::choose;
 pub use jobs::{LONGEST_REPORT, MOST_CELLS, work};
-pub use orders::Order;

@@ -2,7 +2,6 @@
 use Rattle.std.specs.Prelude.{ℕ, List, Ok, Err, Result}
 use Rattle.faults.specs.declared.call.CallFault.{CallFault}
 use Rattle.pairing.specs.Pairings.{chosen}
-use Rattle.front.specs.declared.first_line.FirstLine.{FirstLine}
 use Rattle.front.specs.FirstLine.{first_line}
 use Rattle.front.specs.Lines.{refused_line}
 
@@ -12,9 +11,9 @@ printed (Ok text) = text
 printed (Err f) = refused_line f
 
 -- the job behind the first line
-abbrev pub judged_from : Result (FirstLine × List ℕ) CallFault → Result (List ℕ) CallFault
+abbrev pub judged_from : Result ((ℕ × ℕ) × List ℕ) CallFault → Result (List ℕ) CallFault
 judged_from (Err f) = Err f
-judged_from (Ok (line, file)) = chosen line.steps line.patch file
+judged_from (Ok ((steps, patch), file)) = chosen steps patch file
 
 abbrev pub answer_to : List ℕ → List ℕ
 answer_to input = printed (judged_from (first_line input))

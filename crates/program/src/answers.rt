@@ -6,8 +6,8 @@ ghost use Rattle.program.specs.Answers.{printed, answer_to};
 ghost use Rattle.front.specs.Lines.{refused_line};
 
 use faults::CallFault;
-use front::{read_first_line, refused_line};
-use pairing::{LONGEST_REPORT, MOST_CELLS, Order, choose};
+use front::{FirstLine, read_first_line, refused_line};
+use pairing::{LONGEST_REPORT, MOST_CELLS, choose};
 use std::alloc::{AllocError, Global};
 
 /// The bytes of a refusal's line.
@@ -21,26 +21,25 @@ fn refusal(heap: Global, fault: &CallFault) -> Result<Vec<u8>, AllocError>
 /// The report of a job, or its refusal, by way of these buffers.
 fn print_job(
     heap: Global,
-    order: Order,
+    line: FirstLine,
     file: &[u8],
     map: &mut [u8],
     field: &mut [u8],
     spare: &mut [u8],
     out: &mut [u8],
 ) -> Result<Vec<u8>, AllocError>
-    requires { Workable order.steps map.old field.old spare.old out.old }
-    ensures { IfOk result (λ bytes. bytes.items ≡ printed (chosen order.steps order.patch file.now)) }
+    requires { Workable map.old field.old spare.old out.old }
+    ensures { IfOk result (λ bytes. bytes.items ≡ printed (chosen line.steps line.patch file.now)) }
 {
-    match choose(order, file, map, field, spare, out) {
+    match choose(line, file, map, field, spare, out) {
         Ok(length) => Vec::from_slice(heap, &out[..length]),
         Err(fault) => refusal(heap, &fault),
     }
 }
 
 /// The report of a job, or its refusal.
-fn answer_job(heap: Global, order: Order, file: &[u8]) -> Result<Vec<u8>, AllocError>
-    requires { (1 ≤ order.steps) × (order.steps ≤ 65535) }
-    ensures { IfOk result (λ bytes. bytes.items ≡ printed (chosen order.steps order.patch file.now)) }
+fn answer_job(heap: Global, line: FirstLine, file: &[u8]) -> Result<Vec<u8>, AllocError>
+    ensures { IfOk result (λ bytes. bytes.items ≡ printed (chosen line.steps line.patch file.now)) }
 {
     let mut map = vec![in heap; 0u8; MOST_CELLS]?;
     let mut field = vec![in heap; 0u8; MOST_CELLS]?;
@@ -48,7 +47,7 @@ fn answer_job(heap: Global, order: Order, file: &[u8]) -> Result<Vec<u8>, AllocE
     let mut out = vec![in heap; 0u8; LONGEST_REPORT]?;
     print_job(
         heap,
-        order,
+        line,
         file,
         map.as_mut_slice(),
         field.as_mut_slice(),
@@ -62,13 +61,7 @@ pub fn answer(heap: Global, input: &[u8]) -> Result<Vec<u8>, AllocError>
     ensures { IfOk result (λ bytes. bytes.items ≡ answer_to input.now) }
 {
     match read_first_line(input) {
-        Ok((line, file)) => {
-            let order = Order {
-                steps: line.steps,
-                patch: line.patch,
-            };
-            answer_job(heap, order, file)
-        }
+        Ok((line, file)) => answer_job(heap, line, file),
         Err(fault) => refusal(heap, &fault),
     }
 }

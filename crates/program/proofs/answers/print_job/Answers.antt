@@ -6,7 +6,7 @@ use Rattle.program.proofs.answers.print_job.Goals as goal
 use Rattle.program.proofs.answers.print_job.Goals.{In-Ok}
 
 fits : (c : In-Ok) → c.in-Ok.length ≤ length c.choose.new.out
-fits c = report_fits (chosen c.args.order.steps c.args.order.patch c.args.file.now) c.in-Ok.length c.args.out.now _ c.in-Ok.ensures
+fits c = report_fits (chosen c.args.line.steps c.args.line.patch c.args.file.now) c.in-Ok.length c.args.out.now _ c.in-Ok.ensures
 
 pub slice_bounds-from_slice-end : goal.slice_bounds-from_slice-end
 slice_bounds-from_slice-end c = fits (goal.at.slice_bounds-from_slice-end c).In-Ok
@@ -16,5 +16,5 @@ slice_bounds-from_slice-end-in-Ok c = let h = fits (goal.at.slice_bounds-from_sl
 
 pub returns-in-Ok : goal.returns-in-Ok
 returns-in-Ok c =
-    made_as _ (λ v. vec_items v ≡ printed (chosen c.args.order.steps c.args.order.patch c.args.file.now)) c.from_slice.result
-    (λ v h. h ∙ report_printed (chosen c.args.order.steps c.args.order.patch c.args.file.now) c.in-Ok.length _ _ c.in-Ok.ensures) c.from_slice.ensures.items
+    made_as _ (λ v. vec_items v ≡ printed (chosen c.args.line.steps c.args.line.patch c.args.file.now)) c.from_slice.result
+    (λ v h. h ∙ report_printed (chosen c.args.line.steps c.args.line.patch c.args.file.now) c.in-Ok.length _ _ c.in-Ok.ensures) c.from_slice.ensures.items
