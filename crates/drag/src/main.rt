@@ -5,22 +5,13 @@ mod bars;
 mod lines;
 mod plate;
 
-use front::refused_line;
-use lines::drag_lines;
 use plate::measure;
 
 fn run(rt: &HostRuntime) -> anyhow::Result<()> {
-    let text = match measure() {
-        Ok(drag) => drag_lines(
-            rt.alloc(),
-            drag.steps,
-            drag.plate.along,
-            drag.plate.across,
-            drag.particles,
-        )?,
-        Err(fault) => refused_line(rt.alloc(), &fault)?,
-    };
-    rt.print(text)?;
+    match measure() {
+        Ok(drag) => rt.print(drag)?,
+        Err(fault) => rt.println(fault)?,
+    }
     Ok(())
 }
 

@@ -9,6 +9,7 @@ use super::held::Held;
 use super::record::put_record;
 use super::rules::rules_bytes;
 use gas::Gas;
+use records::Kind;
 use text::Sheet;
 use twist::TwistSource;
 
@@ -22,12 +23,12 @@ impl<'a, G: Gas, S: TwistSource> Held<'a, G, S> {
         let cells = self.state.grid.cells();
         let mut entries = [0u8; 256];
         let mut sheet = Sheet::new(out);
-        put_record(2, &self.head_bytes(), &mut sheet);
-        put_record(3, rules_bytes(&self.state.gas, &mut entries), &mut sheet);
-        put_record(4, &self.map[..cells], &mut sheet);
-        put_record(5, &self.field[..cells], &mut sheet);
-        put_record(6, &book_bytes(&self.state.book), &mut sheet);
-        put_record(1, &[], &mut sheet);
+        put_record(Kind::Head, &self.head_bytes(), &mut sheet);
+        put_record(Kind::Rules, rules_bytes(&self.state.gas, &mut entries), &mut sheet);
+        put_record(Kind::Map, &self.map[..cells], &mut sheet);
+        put_record(Kind::Field, &self.field[..cells], &mut sheet);
+        put_record(Kind::Book, &book_bytes(&self.state.book), &mut sheet);
+        put_record(Kind::End, &[], &mut sheet);
         sheet.place()
     }
 }

@@ -8,6 +8,7 @@ use gas::Gas;
 use lattice::{held, state_where};
 
 /// A cell's state after the collision, and whether the fan turned a particle in it.
+// Both are told of every cell: the state stands whatever the flag says, so no Option would hold it.
 #[derive(Clone, Copy)]
 pub struct Collided {
     pub state: u8,

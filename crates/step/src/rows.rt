@@ -1,4 +1,5 @@
 // The collision, row by row; each row writes only its own stretch of the spare.
+// Map, field and spare are lent for one call, and a step writes what it read before: so each call asks for their lengths, and no struct holds them.
 ghost use Rattle.std.specs.Prelude.{◌≡◌, ℕ, ◌+◌, ◌*◌, ◌<◌, ◌≤◌, length};
 ghost use Rattle.dynamics.specs.States.{state_of};
 ghost use Rattle.step.specs.Rows.{asked, cell_in, RowCollided};
@@ -30,6 +31,7 @@ pub fn row_pass<G: Gas, S: TwistSource>(
     let acts = state.fan_acts();
     let mut source = state.source;
     let mut turned = 0;
+    // A column's number is asked for, two slices are read there and a third is written: a zip of all is no plainer.
     for column in 0..width {
         let twist = source.ask(state.steps, column as u32, row as u32);
         let role = Role::from(map[start + column]);
@@ -59,6 +61,7 @@ pub fn collide_rows<G: Gas, S: TwistSource>(
     let width = state.grid.width() as usize;
     let height = state.grid.height() as usize;
     let mut turned = 0;
+    // Each row is lent the spare from its first cell to the end, of which it leaves all behind its own stretch: no cut into chunks says that.
     for row in 0..height {
         turned += row_pass(state, row, map, field, &mut spare[row * width..]);
     }
