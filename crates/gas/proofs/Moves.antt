@@ -1,6 +1,7 @@
 -- Neighbours by column and row: if columns and rows come back, so do cells.
-use Rattle.std.proofs.Common.{◌≡◌, ℕ, ◌*◌, ◌<◌, ◌≤◌, Bool, true, false, ◌&&◌, ltb, refl, ap, ◌∙◌, ap₂, arith}
-use Rattle.std.proofs.lemmas.Bool.{lt-ltb, le-ltb, cond-true, cond-false}
+use Rattle.std.proofs.Common.{◌≡◌, ℕ, ◌*◌, ◌<◌, ◌≤◌, Bool, ◌&&◌, ltb, ap, ◌∙◌, ap₂, arith}
+use Rattle.std.proofs.Math.Bool.{and-false}
+use Rattle.std.proofs.lemmas.Bool.{lt-ltb, le-ltb, and_from, cond-true, cond-false}
 use Rattle.lattice.specs.Grids.{Lawful, cell_at, column_of, row_of}
 use Rattle.lattice.proofs.Cells.{cell_below, column_of_cell, row_of_cell, cell_of, column_in, row_in}
 use Rattle.gas.specs.Model.{reached, on_grid}
@@ -13,15 +14,12 @@ pub record Moves (channels : ℕ) (opposite : ℕ → ℕ) (column : ℕ → ℕ
   pub column_back : (w h q c r : ℕ) → Lawful w h → q < channels → c < w → r < h → column w (opposite q) (column w q c r) (row h q r) ≡ c
   pub row_back : (w h q r : ℕ) → Lawful w h → q < channels → r < h → row h (opposite q) (row h q r) ≡ r
 
-both_true : (a b : Bool) → a ≡ true → b ≡ true → (a && b) ≡ true
-both_true a b p q = ap (λ (x : Bool). x && b) p ∙ q
-
 module _ (channels : ℕ) (opposite : ℕ → ℕ) (column : ℕ → ℕ → ℕ → ℕ → ℕ) (row : ℕ → ℕ → ℕ → ℕ) (moves : Moves channels opposite column row) where
   abbrev neighbour : ℕ → ℕ → ℕ → ℕ → ℕ
   neighbour w h q i = on_grid channels w h q i (reached w (column w q) (row h q) i)
 
   on_grid_lem : (w h q i : ℕ) → q < channels → i < w * h → neighbour w h q i ≡ reached w (column w q) (row h q) i
-  on_grid_lem w h q i below inside = cond-true (ltb q channels && ltb i (w * h)) (reached w (column w q) (row h q) i) i (both_true _ _ (lt-ltb q channels below) (lt-ltb i (w * h) inside))
+  on_grid_lem w h q i below inside = cond-true (ltb q channels && ltb i (w * h)) (reached w (column w q) (row h q) i) i (and_from _ _ (lt-ltb q channels below) (lt-ltb i (w * h) inside))
 
   -- the neighbour of the cell in column c and row r
   pub moves_from : (w h q c r : ℕ) → q < channels → c < w → r < h → neighbour w h q (cell_at w c r) ≡ cell_at w (column w q c r) (row h q r)
@@ -59,8 +57,4 @@ module _ (channels : ℕ) (opposite : ℕ → ℕ) (column : ℕ → ℕ → ℕ
   moves_channel_beyond w h q i beyond = cond-false _ _ _ (ap (λ (x : Bool). x && ltb i (w * h)) (le-ltb q channels beyond))
 
   pub moves_cell_beyond : (w h q i : ℕ) → w * h ≤ i → neighbour w h q i ≡ i
-  moves_cell_beyond w h q i beyond = cond-false _ _ _ (ap (λ (x : Bool). ltb q channels && x) (le-ltb i (w * h) beyond) ∙ and_false (ltb q channels))
-    where
-      and_false : (b : Bool) → (b && false) ≡ false
-      and_false true = refl
-      and_false false = refl
+  moves_cell_beyond w h q i beyond = cond-false _ _ _ (ap (λ (x : Bool). ltb q channels && x) (le-ltb i (w * h) beyond) ∙ and-false (ltb q channels))

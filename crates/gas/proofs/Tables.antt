@@ -2,7 +2,7 @@
 use Rattle.std.proofs.Common.{◌≡◌, ℕ, ◌+◌, ◌-◌, ◌*◌, ◌%◌, ◌<◌, ◌≤◌, max, Bool, true, false, not, ◌&&◌, ltb, List, length, get_or, is_ok, Some, None, Ok, Err, Option, sym, refl, ap, ◌∙◌, subst, inl, inr, mod-eq_of_lt, one-mul, zero-add, zero-mul, arith}
 use native.Mathlib.Nat.{add-mod_left}
 use Rattle.std.proofs.lemmas.Nat.{pow_pos}
-use Rattle.std.proofs.lemmas.Bool.{eqb-true, eq-eqb, ltb-true, lt-ltb, and_parts, cases_lt}
+use Rattle.std.proofs.lemmas.Bool.{eqb-true, eq-eqb, ltb-true, lt-ltb, and_parts, and_from, cases_lt}
 use Rattle.std.specs.Option.{MatchOption}
 use Rattle.std.proofs.lemmas.Bool.Decides.{Decides-int_eq}
 use Rattle.gas.specs.declared.fault.TableFault.TheVariants.{Unsound}
@@ -11,9 +11,6 @@ use Rattle.lattice.proofs.Vectors.{same_vector}
 use Rattle.gas.specs.Model.{GasModel, states, entry_place}
 use Rattle.gas.specs.Soundness.{SoundEntry, SoundTable}
 use Rattle.gas.specs.Judging.{sound_entry, sound_place, first_unsound, unless, table_judged, good_table, TakenIfSound}
-
-both : (a b : Bool) → a ≡ true → b ≡ true → (a && b) ≡ true
-both a b p q = ap (λ (x : Bool). x && b) p ∙ q
 
 -- the test and the record say the same of an entry
 pub entry_sound : (m : GasModel) (s e : ℕ) → sound_entry m s e ≡ true → SoundEntry m s e
@@ -29,9 +26,9 @@ entry_sound m s e good =
 
 sound_entry_lem : (m : GasModel) (s e : ℕ) → SoundEntry m s e → sound_entry m s e ≡ true
 sound_entry_lem m s e sound =
-    both _ _ (lt-ltb _ _ sound.below)
-    (both _ _ (eq-eqb _ _ sound.counted)
-    (both _ _ ((Decides-int_eq _ _).1 (ap (λ v. v.along) sound.balanced)) ((Decides-int_eq _ _).1 (ap (λ v. v.across) sound.balanced))))
+    and_from _ _ (lt-ltb _ _ sound.below)
+    (and_from _ _ (eq-eqb _ _ sound.counted)
+    (and_from _ _ ((Decides-int_eq _ _).1 (ap (λ v. v.along) sound.balanced)) ((Decides-int_eq _ _).1 (ap (λ v. v.across) sound.balanced))))
 
 module _ (m : GasModel) (t : List ℕ) where
   -- no place is unsound
@@ -119,7 +116,7 @@ module _ (m : GasModel) (t : List ℕ) where
   sound_judged sound =
       judged_good (λ k l.
       let low : k < 2 * states m = omega (arith, sound.full) in
-      both _ _ (lt-ltb k (length t) (omega (arith, sound.full))) (both _ _ (lt-ltb k (2 * states m) low) (place_of k low sound)))
+      and_from _ _ (lt-ltb k (length t) (omega (arith, sound.full))) (and_from _ _ (lt-ltb k (2 * states m) low) (place_of k low sound)))
 
 pub taken_if_sound : TakenIfSound
 taken_if_sound m t = (table_sound m t, sound_judged m t)

@@ -108,6 +108,7 @@ impl Gas for HexagonalGas {
     }
 
     fn load(&mut self, list: &[u8]) -> Result<(), TableFault> {
+        // Each gas loads for itself: only its own type knows the entries as sound, so a shared loader could not lend them.
         self.first_unsound(list)?;
         self.entries.copy_from_slice(list);
         Ok(())

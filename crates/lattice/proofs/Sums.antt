@@ -121,12 +121,6 @@ sum_n_bound zero c f h = omega arith
 sum_n_bound (suc n) c f h = omega (arith, sum_n_bound n c f (λ i l. h i (omega arith)), h n (omega arith), suc-mul n c)
 
 -- a term that a test lets in, or keeps out
-pub sum_more_yes : (n : ℕ) (p : ℕ → Bool) (f : ℕ → ℤ) (x : ℤ) → x ≡ sum_z n (λ i. cond (p i) (f i) (pos 0)) → p n ≡ true → x +ℤ f n ≡ sum_z (n + 1) (λ i. cond (p i) (f i) (pos 0))
-sum_more_yes n p f x e h = ap (λ (z : ℤ). z +ℤ f n) e ∙ ap (λ (b : Bool). sum_z n (λ i. cond (p i) (f i) (pos 0)) +ℤ cond b (f n) (pos 0)) (sym h) ∙ sym (sum_more n _)
-
-pub sum_more_no : (n : ℕ) (p : ℕ → Bool) (f : ℕ → ℤ) (x : ℤ) → x ≡ sum_z n (λ i. cond (p i) (f i) (pos 0)) → p n ≡ false → x ≡ sum_z (n + 1) (λ i. cond (p i) (f i) (pos 0))
-sum_more_no n p f x e h = e ∙ sym (+ℤ_idr _) ∙ ap (λ (b : Bool). sum_z n (λ i. cond (p i) (f i) (pos 0)) +ℤ cond b (f n) (pos 0)) (sym h) ∙ sym (sum_more n _)
-
 pub sum_n_more_yes : (n : ℕ) (p : ℕ → Bool) (f : ℕ → ℕ) (x : ℕ) → x ≡ sum_n n (λ i. cond (p i) (f i) 0) → p n ≡ true → x + f n ≡ sum_n (n + 1) (λ i. cond (p i) (f i) 0)
 sum_n_more_yes n p f x e h = omega (arith, e, sum_n_more n (λ i. cond (p i) (f i) 0), cond-true (p n) (f n) 0 h)
 

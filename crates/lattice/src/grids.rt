@@ -10,10 +10,10 @@ impl Grid {
     pub fn new(width: u32, height: u32) -> Result<Grid, GridFault>
         ensures { Made width height result }
     {
-        if width < 2 || width > 256 {
+        if !(2..=256).contains(&width) {
             return Err(GridFault::Width);
         }
-        if height < 2 || height > 256 || height % 2 != 0 {
+        if !(2..=256).contains(&height) || height % 2 != 0 {
             return Err(GridFault::Height);
         }
         if width * height > 16384 {

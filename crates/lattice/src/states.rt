@@ -2,6 +2,7 @@
 ghost use Rattle.std.specs.Prelude.{◌≡◌, ℕ, ◌+◌, ◌^◌, ◌<◌, Bool, slice_index};
 ghost use Rattle.lattice.specs.States.{holds, state_of};
 
+// A channel is the plain number of a bit: a type of its own would be opened again at each shift and in each loop.
 /// Whether this channel of the state holds a particle.
 pub fn held(state: u8, channel: u8) -> bool
     requires { channel < 8 }

@@ -86,6 +86,7 @@ impl Gas for SquareGas {
     }
 
     fn load(&mut self, list: &[u8]) -> Result<(), TableFault> {
+        // Each gas loads for itself: only its own type knows the entries as sound, so a shared loader could not lend them.
         self.first_unsound(list)?;
         self.entries.copy_from_slice(list);
         Ok(())
