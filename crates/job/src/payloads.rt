@@ -20,6 +20,7 @@ fn first_above(bytes: &[u8], limit: u8) -> Option<usize>
 }
 
 /// The first byte from a limit on.
+// Not one function with the test as a closure: its contract would speak of the closure, and say no more.
 fn first_from(bytes: &[u8], limit: usize) -> Option<usize>
     ensures { result ≡ first_from limit bytes.now }
 {
