@@ -1,28 +1,17 @@
 -- The number whose decimal text a text is.
-use Rattle.std.proofs.Common.{◌≡◌, ℕ, ◌+◌, ◌^◌, ◌<◌, ◌≤◌, Bool, true, false, ◌&&◌, eqb, leb, List, [], ◌∷◌, length, get_or, Some, None, Ok, Err, Result, decimal, sym, refl, ap, ◌∙◌, subst, inl, inr, arith}
+use Rattle.std.proofs.Common.{◌≡◌, ℕ, ◌+◌, ◌^◌, ◌<◌, ◌≤◌, Bool, true, false, ◌&&◌, eqb, leb, List, length, get_or, Some, None, Ok, Err, Result, decimal, sym, refl, ap, ◌∙◌, subst, inl, inr, arith}
+use lib.Pointwise.{pointwise}
+use Rattle.std.specs.Cmp.Lexicographic.{same_text}
+use Rattle.std.proofs.lemmas.Cmp.{nat_list_eq_equiv}
 use Rattle.std.specs.Int.{IsInRange}
 use Rattle.std.specs.Str.{IsUtf8}
 use Rattle.std.specs.Str.Parse.{AllDigits, digits_value, ParsesUnsigned}
-use Rattle.std.proofs.lemmas.Bool.{eqb-true, eq-eqb, le-leb, leb-true, and_parts, cases_lt, true≢false}
+use Rattle.std.proofs.lemmas.Bool.{le-leb, leb-true, and_parts, cases_lt}
 use Rattle.std.proofs.lemmas.Fmt.{decimal_digit, decimal_nonempty, decimal_is_IsNumeral, first_decimal, decimal_injective, decimal-digits_value, parse-decimal, IsAscii-decimal}
 use Rattle.std.proofs.lemmas.Str.{IsUtf8-from_ascii}
 use Rattle.std.proofs.lemmas.Str.Parse.{IsNumeralModel, numerals_by_value, tells_digits, digit_at, parse_plain}
 use Rattle.lattice.proofs.Firsts.{first-none, first_some}
-use Rattle.front.specs.Numbers.{same_bytes, number_up_to}
-
-pub same_bytes_lem : (xs ys : List ℕ) → same_bytes xs ys ≡ true → xs ≡ ys
-same_bytes_lem [] [] e = refl
-same_bytes_lem [] (y ∷ ys) e = absurd (true≢false (sym e))
-same_bytes_lem (x ∷ xs) [] e = absurd (true≢false (sym e))
-same_bytes_lem (x ∷ xs) (y ∷ ys) e =
-    let p = and_parts (eqb x y) (same_bytes xs ys) e in
-    let h : x ≡ y = eqb-true x y p.0 in
-    let t : xs ≡ ys = same_bytes_lem xs ys p.1 in
-    cc
-
-pub bytes_same : (xs : List ℕ) → same_bytes xs xs ≡ true
-bytes_same [] = refl
-bytes_same (x ∷ xs) = ap (λ (b : Bool). b && same_bytes xs xs) (eq-eqb x x refl) ∙ bytes_same xs
+use Rattle.front.specs.Numbers.{number_up_to}
 
 by_false : (b : Bool) → (b ≡ true → ⊥) → b ≡ false
 by_false true h = absurd (h refl)
@@ -31,18 +20,18 @@ by_false false h = refl
 -- no number's text
 pub none_up_to : (most : ℕ) (text : List ℕ) → ((k : ℕ) → 1 ≤ k → k ≤ most → text ≡ decimal k → ⊥) → number_up_to most text ≡ None
 none_up_to most text never =
-    first-none (most + 1) (λ k. leb 1 k && same_bytes text (decimal k)) (λ k l. by_false (leb 1 k && same_bytes text (decimal k))
-    (λ e. let p = and_parts (leb 1 k) (same_bytes text (decimal k)) e in never k (leb-true 1 k p.0) (omega arith) (same_bytes_lem text (decimal k) p.1)))
+    first-none (most + 1) (λ k. leb 1 k && pointwise eqb text (decimal k)) (λ k l. by_false (leb 1 k && pointwise eqb text (decimal k))
+    (λ e. let p = and_parts (leb 1 k) (pointwise eqb text (decimal k)) e in never k (leb-true 1 k p.0) (omega arith) (same_text text (decimal k) (sym p.1))))
 
 -- that of v
 pub some_up_to : (most : ℕ) (text : List ℕ) (v : ℕ) → most < 2 ^ 64 → 1 ≤ v → v ≤ most → text ≡ decimal v → number_up_to most text ≡ Some v
 some_up_to most text v fits low high is =
-    first_some (most + 1) (λ k. leb 1 k && same_bytes text (decimal k)) v (omega arith)
-    (ap (λ (b : Bool). b && same_bytes text (decimal v)) (le-leb 1 v low) ∙ subst (λ (t : List ℕ). same_bytes text t ≡ true) is (bytes_same text))
-    (λ j l. by_false (leb 1 j && same_bytes text (decimal j))
+    first_some (most + 1) (λ k. leb 1 k && pointwise eqb text (decimal k)) v (omega arith)
+    (ap (λ (b : Bool). b && pointwise eqb text (decimal v)) (le-leb 1 v low) ∙ subst (λ (t : List ℕ). pointwise eqb text t ≡ true) is (nat_list_eq_equiv.refl text))
+    (λ j l. by_false (leb 1 j && pointwise eqb text (decimal j))
     (λ e.
-    let p = and_parts (leb 1 j) (same_bytes text (decimal j)) e in
-    let s : j ≡ v = decimal_injective j v (omega arith) (omega arith) (sym (same_bytes_lem text (decimal j) p.1) ∙ is) in
+    let p = and_parts (leb 1 j) (pointwise eqb text (decimal j)) e in
+    let s : j ≡ v = decimal_injective j v (omega arith) (omega arith) (sym (same_text text (decimal j) (sym p.1)) ∙ is) in
     omega arith))
 
 -- a text of digits that begins with no sign and no zero

@@ -23,6 +23,7 @@ pub struct Settings {
 }
 
 /// The kinds are those of this gas and this source.
+// Here and in the next two the record's number and the head stay two arguments: a struct of both would be made for them alone.
 pub fn judge_kinds<G: Gas, S: TwistSource>(
     gas: &G,
     source: &S,

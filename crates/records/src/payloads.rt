@@ -27,6 +27,7 @@ impl Place {
 }
 
 /// The places of the known records' payloads.
+// Six fields, not an array by kind: a caller names the place that it wants.
 #[derive(Clone, Copy, Debug, Default, PartialEq, Eq, Hash)]
 pub struct Places {
     pub head: Place,
