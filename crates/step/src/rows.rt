@@ -25,6 +25,7 @@ pub fn row_pass<G: Gas, S: TwistSource>(
     requires spare { state.old.grid.width ≤ length spare.old }
     ensures row { RowCollided state.old.grid.width (cell_in (state_of G.Gas S.TwistSource state.old) row map.now field.now) spare.old spare.new result }
     ensures run { state_of G.Gas S.TwistSource state.new ≡ asked state.old.grid.width (state_of G.Gas S.TwistSource state.old) }
+    ensures gas { state.new.gas ≡ state.old.gas }
 {
     let width = state.grid.width() as usize;
     let start = row * width;
@@ -57,6 +58,7 @@ pub fn collide_rows<G: Gas, S: TwistSource>(
     requires spare { state.old.grid.width * state.old.grid.height ≤ length spare.old }
     ensures all { AllCollided (scene_of (state_of G.Gas S.TwistSource state.old) map.now field.now) spare.old spare.new result }
     ensures run { state_of G.Gas S.TwistSource state.new ≡ asked (state.old.grid.width * state.old.grid.height) (state_of G.Gas S.TwistSource state.old) }
+    ensures gas { state.new.gas ≡ state.old.gas }
 {
     let width = state.grid.width() as usize;
     let height = state.grid.height() as usize;

@@ -27,6 +27,7 @@ pub fn step<G: Gas, S: TwistSource>(
     requires steps { state.old.steps ≤ 1000000000 }
     ensures field { field.new ≡ over (stepped (scene_of (state_of G.Gas S.TwistSource state.old) map.now field.old)).field field.old }
     ensures spare { spare.new ≡ over (collided (scene_of (state_of G.Gas S.TwistSource state.old) map.now field.old)) spare.old }
+    ensures gas { state.new.gas ≡ state.old.gas }
     ensures run { state_of G.Gas S.TwistSource state.new ≡ (stepped (scene_of (state_of G.Gas S.TwistSource state.old) map.now field.old)).run }
 {
     let cells = state.grid.cells();
@@ -48,7 +49,8 @@ pub fn take_steps<G: Gas, S: TwistSource>(
     requires sound { SoundTunnel (scene_of (state_of G.Gas S.TwistSource state.old) map.now field.old) }
     requires spare { state.old.grid.width * state.old.grid.height ≤ length spare.old }
     requires steps { state.old.steps + count ≤ 1000000000 }
-    ensures { Taken (scene_of (state_of G.Gas S.TwistSource state.old) map.now field.old) count field.old field.new spare.old spare.new (state_of G.Gas S.TwistSource state.new) }
+    ensures gas { state.new.gas ≡ state.old.gas }
+    ensures taken { Taken (scene_of (state_of G.Gas S.TwistSource state.old) map.now field.old) count field.old field.new spare.old spare.new (state_of G.Gas S.TwistSource state.new) }
 {
     for done in 0..count {
         step(state, map, field, spare);

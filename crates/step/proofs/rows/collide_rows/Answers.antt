@@ -15,9 +15,6 @@ use Rattle.step.proofs.Stretches.{part_long, filled_none, filled_more}
 use Rattle.step.proofs.RowScenes.{mark_at_add, count_few, in_whole, count_rows}
 use Rattle.step.proofs.rows.collide_rows.Goals as goal
 
-asked_none : (s : RunState) → s ≡ asked 0 s
-asked_none s = refl
-
 -- asked a times, and then b times more
 asked_more : (s : RunState) (a b : ℕ) → asked b (asked a s) ≡ asked (a + b) s
 asked_more s a b = λ j. record {
@@ -39,7 +36,8 @@ loop-row-init g c =
     let z : 0 ≡ 0 * s.width = sym (zero-mul s.width) in (
       filled_none (collided_at t) c.args.spare.now s.width,
       sum_n_start (λ i. cond (turns_at t i) 1 0) ∙ ap (λ (n : ℕ). count_n n (turns_at t)) z,
-      asked_none s ∙ ap (λ (n : ℕ). asked n s) z,
+      ap (λ (n : ℕ). asked n s) z,
+      refl,
     )
 
 pub slice_bounds-row_pass-count : goal.slice_bounds-row_pass-count
@@ -111,6 +109,7 @@ loop-row-preserved g c =
           inv.0),
       ap (λ (n : ℕ). n + c.row_pass-turned.result) inv.1 ∙ count_rows s map field r c.row_pass-turned.result below told.turned,
       after,
+      c.row_pass-turned.ensures.gas ∙ inv.3,
     )
 
 pub returns : goal.returns
@@ -126,4 +125,5 @@ returns g c =
         turned = c.loop-row.invariant.1 ∙ ap (λ (n : ℕ). count_n n (turns_at t)) end;
       };
       run = c.loop-row.invariant.2 ∙ ap (λ (n : ℕ). asked n s) end;
+      gas = c.loop-row.invariant.3;
     }

@@ -14,4 +14,4 @@ invariant-loop-row g l =
     let s = state_of g.G.Gas g.S.TwistSource l.initial.state in
     let t = scene_of s l.map l.field in
     let n = l.row * s.width in
-    Filled n (collided_at t) l.initial.spare l.spare × (l.turned ≡ count_n n (turns_at t)) × (state_of g.G.Gas g.S.TwistSource l.state ≡ asked n s)
+    Filled n (collided_at t) l.initial.spare l.spare × (l.turned ≡ count_n n (turns_at t)) × (state_of g.G.Gas g.S.TwistSource l.state ≡ asked n s) × (l.state.gas ≡ l.initial.state.gas)

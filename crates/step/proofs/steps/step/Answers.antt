@@ -93,6 +93,7 @@ returns g c =
     record {
       field = field_after t sound c.args.spare.now spare field c.stream_rows.new.field fits c.stream_rows.auto.field all.spare moves;
       spare = filled_over n _ c.args.spare.now spare c.requires.spare c.collide_rows-turned.auto.spare all.spare;
+      gas = c.collide_rows-turned.ensures.gas;
       run = λ j. record {
         gas = (same j).gas;
         entries = (same j).entries;

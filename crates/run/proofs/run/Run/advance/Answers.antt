@@ -79,7 +79,7 @@ invariant_of-self g c =
     let after = (after_steps k t).run in
     let kept = same k t in
     let sound = (steps_keep k t (sound_advance g run k map field spare unfaulted)).sound.run in
-    let is = sym c.take_steps.ensures.run_is in
+    let is = sym c.take_steps.ensures.taken.run_is in
     let few : after.steps ≤ 1000000000 = subst (λ (n : ℕ). n ≤ 1000000000) (sym kept.steps) (allowed s k map field spare unfaulted).few in
     record {
       slow = subst (λ (r : RunState). r.period ≤ 999) is (subst (λ (n : ℕ). n ≤ 999) (sym kept.period) run.slow);
@@ -96,7 +96,7 @@ returns g c =
     let spare = c.args.spare.now in
     let unfaulted : advance_fault s k map field spare ≡ None = reply-none _ tt tt c.in_ok-judge_advance.ensures in
     let t = scene_of s map field in
-    let taken = c.take_steps.ensures in
+    let taken = c.take_steps.ensures.taken in
     let steps : c.take_steps.new.state.steps ≡ s.steps + k = ap (λ (r : RunState). r.steps) taken.run_is ∙ (same k t).steps in
     record {
       answer = ap Ok steps ∙ ap (λ (o : Option CallFault). reply o (s.steps + k)) (sym unfaulted);
