@@ -13,6 +13,9 @@ impl fmt::Display for Drag {
         let along = self.plate.along;
         let across = self.plate.across;
         let particles = self.particles;
-        write!(f, "steps {steps}\nplate {along} {across}\nparticles {particles}\n")
+        write!(
+            f,
+            "steps {steps}\nplate {along} {across}\nparticles {particles}\n"
+        )
     }
 }

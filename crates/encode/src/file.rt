@@ -24,7 +24,11 @@ impl<'a, G: Gas, S: TwistSource> Held<'a, G, S> {
         let mut entries = [0u8; 256];
         let mut sheet = Sheet::new(out);
         put_record(Kind::Head, &self.head_bytes(), &mut sheet);
-        put_record(Kind::Rules, rules_bytes(&self.state.gas, &mut entries), &mut sheet);
+        put_record(
+            Kind::Rules,
+            rules_bytes(&self.state.gas, &mut entries),
+            &mut sheet,
+        );
         put_record(Kind::Map, &self.map[..cells], &mut sheet);
         put_record(Kind::Field, &self.field[..cells], &mut sheet);
         put_record(Kind::Book, &book_bytes(&self.state.book), &mut sheet);

@@ -13,7 +13,7 @@ ghost use Rattle.hexagonal.specs.Lawful.{hexagonal_laws};
 ghost use Rattle.gas.proofs.Tables.{good_sound};
 
 use gas::{Gas, TableFault, outcome_in};
-use lattice::{Grid, Vector};
+use lattice::{Grid, Vector, heading_of};
 pub use laws::house_rules_hold;
 use outcomes::HOUSE;
 pub use streaming::stream_hexagonal_row;
@@ -76,11 +76,7 @@ impl Gas for HexagonalGas {
     }
 
     fn vector(&self, channel: u8) -> Vector {
-        let (along, across) = HEADINGS
-            .get(usize::from(channel))
-            .copied()
-            .unwrap_or((0, 0));
-        Vector { along, across }
+        heading_of(&HEADINGS, channel)
     }
 
     fn opposite(&self, channel: u8) -> u8 {

@@ -5,3 +5,4 @@ pub mod States
 pub mod Grids
 pub mod GridViews
 pub mod Sources
+pub mod Headings

@@ -16,7 +16,7 @@ pub use grid::Grid;
 pub use places::{one_back, one_on};
 pub use ring::fill_ring;
 pub use rows::{Rows, rows_around};
-pub use vector::Vector;
+pub use vector::{Vector, heading_of};
 
 mod states;
 

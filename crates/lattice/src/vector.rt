@@ -2,6 +2,7 @@
 ghost use Rattle.std.specs.Prelude.{◌≡◌, ◌+ℤ◌, FitsSigned};
 ghost use Rattle.std.specs.Int.{w64};
 ghost use Rattle.lattice.specs.Vectors.{added};
+ghost use Rattle.lattice.specs.Headings.{heading_of};
 
 use std::ops::AddAssign;
 
@@ -10,6 +11,17 @@ use std::ops::AddAssign;
 pub struct Vector {
     pub along: i64,
     pub across: i64,
+}
+
+/// Where a channel leads by a list of headings, along and across; nowhere beyond the list.
+pub fn heading_of(headings: &[(i64, i64)], channel: u8) -> Vector
+    ensures { result ≡ heading_of headings.now channel }
+{
+    let (along, across) = headings
+        .get(usize::from(channel))
+        .copied()
+        .unwrap_or((0, 0));
+    Vector { along, across }
 }
 
 impl AddAssign for Vector {

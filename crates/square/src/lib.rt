@@ -10,7 +10,7 @@ ghost use Rattle.square.specs.Lawful.{square_laws};
 ghost use Rattle.gas.proofs.Tables.{good_sound};
 
 use gas::{Gas, TableFault, outcome_in, row_fits};
-use lattice::{Grid, Vector, fill_ring, rows_around};
+use lattice::{Grid, Vector, fill_ring, heading_of, rows_around};
 use streaming::gather;
 pub use table::SquareGas;
 
@@ -50,11 +50,7 @@ impl Gas for SquareGas {
     }
 
     fn vector(&self, channel: u8) -> Vector {
-        let (along, across) = HEADINGS
-            .get(usize::from(channel))
-            .copied()
-            .unwrap_or((0, 0));
-        Vector { along, across }
+        heading_of(&HEADINGS, channel)
     }
 
     fn opposite(&self, channel: u8) -> u8 {

@@ -35,9 +35,9 @@ step-requires g c =
 
 pub loop-done-preserved : goal.loop-done-preserved
 loop-done-preserved g c = (
-    c.step.ensures.gas ∙ c.loop-done.invariant.0,
-    taken_more (state_of g.G.Gas g.S.TwistSource c.args.state.now) c.args.map.now c.args.field.now c.requires.sound c.loop-done.done
-    c.args.spare.now c.loop-done.spare c.step.new.spare c.loop-done.field c.step.new.field
-    (state_of g.G.Gas g.S.TwistSource c.loop-done.state) (state_of g.G.Gas g.S.TwistSource c.step.new.state)
-    c.loop-done.invariant.1 (c.step.ensures.field, c.step.ensures.spare, c.step.ensures.run),
-  )
+  c.step.ensures.gas ∙ c.loop-done.invariant.0,
+  taken_more (state_of g.G.Gas g.S.TwistSource c.args.state.now) c.args.map.now c.args.field.now c.requires.sound c.loop-done.done
+      c.args.spare.now c.loop-done.spare c.step.new.spare c.loop-done.field c.step.new.field
+      (state_of g.G.Gas g.S.TwistSource c.loop-done.state) (state_of g.G.Gas g.S.TwistSource c.step.new.state)
+      c.loop-done.invariant.1 (c.step.ensures.field, c.step.ensures.spare, c.step.ensures.run),
+)
