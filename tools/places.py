@@ -21,7 +21,7 @@ PATTERNS = {
     '1 numbers for kinds and refusals': r'kind: u8\b|put_record\([0-9]|kind [!=]= [0-9]|number\(\) == [0-9]|^            [0-9]+ => self\.',
     '3 loops over a counted index': r'\bfor [a-z_]+ in [^{]*\.\.',
     '3 while and loop': r'\bwhile |\bloop \{',
-    '4 conversions and printing by hand': r'fn (role_of|grid_fault|digits|last_digit|sign_of|is_none|value_of|fault_of)\b|^\s*(Err|Ok|Some|None)(\([a-z_]*\))? => (return )?(Err|Ok|None|Some)\b|\.along == .* && ',
+    '4 conversions and printing by hand': r'fn (role_of|grid_fault|digits|last_digit|sign_of|is_none|value_of|fault_of)\b|^\s*(Some\([a-z]+\) => Ok\(|None => Err\(|Err\([a-z]+\) => return Err|Ok\(\(\)\) => Ok)|\.along == .* && ',
     '6 buffers with a length or place beside': r'\[u8; [0-9]+\], usize\)|at: usize\b|file_start',
     '7 functions in tables, pointers': r'\bfn\(|\[fn',
 }
@@ -53,7 +53,7 @@ def matches(pattern):
 def functions():
     for path, text in sources():
         for m in re.finditer(r'^[ ]*(?:pub(?:\(crate\))? )?fn ([a-z_0-9]+)(?:<[^(]*>)?\(([^)]*)\)', text, re.M | re.S):
-            params = [p.strip() for p in m.group(2).split(',') if p.strip()]
+            params = [p.strip() for p in re.sub(r'<[^<>]*>', '', m.group(2)).split(',') if p.strip()]
             yield path, m.group(1), params
 
 

@@ -6,6 +6,7 @@ ghost use Rattle.records.specs.Format.{header_of, check_of};
 pub const HEADER_LENGTH: usize = 8;
 
 /// The eight bytes that stand before a payload: the record's kind, the payload's length and its check.
+// The kind is the byte as it stands: whether it is one is judged after the check.
 #[derive(Clone, Copy, Debug, PartialEq)]
 pub struct Header {
     pub kind: u8,

@@ -50,6 +50,7 @@ pub fn settle_walls<G: Gas>(gas: &G, map: &[u8], field: &[u8], book: &mut Book)
     requires modest { Modest book.old.accounts }
     ensures { Settled (G.model gas.now) map.now field.now book.old.accounts book.new.accounts (length map.now) }
 {
+    // A stretch is cut by its number, since the field is read at its walls' places, and these are the map's.
     for stretch in 0..map.len().div_ceil(STRETCH) {
         let start = stretch * STRETCH;
         let walls = &map[start..map.len().min(start + STRETCH)];
