@@ -2,7 +2,6 @@
 use Rattle.std.specs.Prelude.{ℕ, ◌+◌, ◌*◌, ◌/◌, List, ◌++◌, take}
 use Rattle.lattice.specs.declared.grid.Grid.{Grid}
 use Rattle.gas.specs.declared.Gas as Gas
-use Rattle.twist.specs.declared.TwistSource as Twist
 use Rattle.gas.specs.Model.{GasModel}
 use Rattle.lattice.specs.declared.vector.Vector.{Vector as Account}
 use Rattle.book.specs.Accounts.{accounts, account_at}
@@ -48,8 +47,8 @@ shown gas grid steps book field = record {
 }
 
 -- what the program shows, as such a snapshot
-abbrev pub told : {G S : Type 0} → (g : Gas.Ghosts G) → (s : Twist.Ghosts S) → Shown G S g s → Snapshot
-told g s h = shown (g.model h.state.now.gas) h.state.now.grid h.state.now.steps h.state.now.book.accounts h.field.now
+abbrev pub told : {G : Type 0} → (g : Gas.Ghosts G) → Shown G g → Snapshot
+told g s = shown (g.model s.gas.now) s.grid s.steps s.book.now.accounts s.field.now
 
 -- the same of a run and its field
 abbrev pub snapshot : RunState → List ℕ → Snapshot

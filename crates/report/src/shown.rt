@@ -1,17 +1,20 @@
 // What a report is made of.
 ghost use Rattle.std.specs.Prelude.{◌*◌, ◌≤◌, length};
 
-use dynamics::State;
+use book::Book;
 use gas::Gas;
-use twist::TwistSource;
+use lattice::Grid;
 
-/// The state of a run, its field, and the side of a patch in cells. Bytes of the field beyond the grid's cells are no
+/// A gas on a grid after so many steps, its book, its field, and the side of a patch in cells. Bytes of the field beyond the grid's cells are no
 /// part of a report.
 #[derive(Drop)]
-pub struct Shown<'a, G: Gas, S: TwistSource> {
-    pub state: &'a State<G, S>,
+pub struct Shown<'a, G: Gas> {
+    pub gas: &'a G,
+    pub grid: Grid,
+    pub steps: u32,
+    pub book: &'a Book,
     pub field: &'a [u8],
     pub patch: u32,
-    ghost whole: { state.now.grid.width * state.now.grid.height ≤ length field.now },
+    ghost whole: { grid.width * grid.height ≤ length field.now },
     ghost some: { 1 ≤ patch },
 }

@@ -38,7 +38,10 @@ impl<G: Gas, S: TwistSource> Run<G, S> {
     {
         self.judge_patches(b, field)?;
         let shown = Shown {
-            state: &self.state,
+            gas: &self.state.gas,
+            grid: self.state.grid,
+            steps: self.state.steps,
+            book: &self.state.book,
             field,
             patch: b,
         };

@@ -17,8 +17,8 @@ loop-line-init g c = record {
 
 pub overflow_add-totals : goal.overflow_add-totals
 overflow_add-totals g c =
-    let s = told g.G.Gas g.S.TwistSource c.args.self.now in
-    let laws = g.met.G.Gas.lawful c.args.self.now.state.now.gas in
+    let s = told g.G.Gas c.args.self.now in
+    let laws = g.met.G.Gas.lawful c.args.self.now.gas.now in
     let b = c.args.columns in
     let j = c.loop-line.line in
     let cell : ℕ → ℕ → ℕ = λ k j. cell_at s.width (c.args.column + k) (c.args.row + j) in
@@ -35,15 +35,15 @@ overflow_add-totals g c =
 
 pub add_assign-requires : goal.add_assign-requires
 add_assign-requires g c =
-    let s = told g.G.Gas g.S.TwistSource c.args.self.now in
+    let s = told g.G.Gas c.args.self.now in
     let cell : ℕ → ℕ → ℕ = λ k j. cell_at s.width (c.args.column + k) (c.args.row + j) in
-    momentum_fits s.gas (g.met.G.Gas.lawful c.args.self.now.state.now.gas) s.field c.loop-line.line c.args.columns cell
+    momentum_fits s.gas (g.met.G.Gas.lawful c.args.self.now.gas.now) s.field c.loop-line.line c.args.columns cell
     (omega (arith, c.requires.rows, c.loop-line-test.true)) (omega (arith, c.requires.columns))
     c.loop-line.invariant.momentum c.stretch_totals-stretch.ensures.momentum
 
 pub loop-line-preserved : goal.loop-line-preserved
 loop-line-preserved g c =
-    let s = told g.G.Gas g.S.TwistSource c.args.self.now in
+    let s = told g.G.Gas c.args.self.now in
     let b = c.args.columns in
     let j = c.loop-line.line in
     let cell : ℕ → ℕ → ℕ = λ k j. cell_at s.width (c.args.column + k) (c.args.row + j) in record {
@@ -53,7 +53,7 @@ loop-line-preserved g c =
 
 pub returns-clause-momentum : goal.returns-clause-momentum
 returns-clause-momentum g c =
-    let s = told g.G.Gas g.S.TwistSource c.args.self.now in
+    let s = told g.G.Gas c.args.self.now in
     let cell : ℕ → ℕ → ℕ = λ k j. cell_at s.width (c.args.column + k) (c.args.row + j) in
     let end : c.loop-line.line ≡ c.args.rows = omega (arith, c.loop-line-test.false, c.loop-line.auto.line-end) in
     c.loop-line.invariant.momentum ∙ ap (λ (n : ℕ). sum_v n (λ i. sum_v c.args.columns (λ k. momentum_at s.gas s.field (cell k i)))) end

@@ -8,5 +8,5 @@ use Rattle.report.proofs.shown.Shown.put_patch_row.Given as goal
 -- the lines of the first columns stand
 abbrev pub invariant-loop-column : goal.invariant-loop-column
 invariant-loop-column g l =
-    let s = told g.G.Gas g.S.TwistSource l.self in
+    let s = told g.G.Gas l.self in
     Adds (texts l.column (λ c. patch_line (patch_at s.gas s.width s.field l.self.patch c l.row))) l.initial.sheet l.sheet

@@ -9,5 +9,5 @@ use Rattle.report.proofs.shown.Shown.put_patches.Given as goal
 -- the lines of the first rows of patches stand
 abbrev pub invariant-loop-row : goal.invariant-loop-row
 invariant-loop-row g l =
-    let s = told g.G.Gas g.S.TwistSource l.self in
+    let s = told g.G.Gas l.self in
     Adds (texts l.row (λ r. texts (s.width / l.self.patch) (λ c. patch_line (patch_at s.gas s.width s.field l.self.patch c r)))) l.initial.sheet l.sheet

@@ -10,7 +10,7 @@ use Rattle.report.proofs.shown.Shown.stretch_totals.Goals as goal
 
 pub returns : goal.returns
 returns g c =
-    let s = told g.G.Gas g.S.TwistSource c.args.self.now in
+    let s = told g.G.Gas c.args.self.now in
     let w = s.width in
     let n = c.args.count in
     let start = c.args.row * c.width.result + c.args.column in

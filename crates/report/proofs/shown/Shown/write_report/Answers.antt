@@ -6,7 +6,7 @@ use Rattle.report.proofs.shown.Shown.write_report.Goals as goal
 
 pub returns : goal.returns
 returns g c =
-    let text : List ℕ = report_text (told g.G.Gas g.S.TwistSource c.args.self.now) c.args.self.now.patch in
+    let text : List ℕ = report_text (told g.G.Gas c.args.self.now) c.args.self.now.patch in
     let out = c.args.out.now in
     let bytes : c.new-sheet.result.out.now ≡ out = c.new-sheet.ensures.bytes in
     let fits : length text ≤ length out = omega (arith, c.measure_report-length.ensures, c.if-length-out.false) in
