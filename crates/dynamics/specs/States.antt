@@ -1,13 +1,13 @@
--- The state that a run's parts stand for, over what its gas and its source mean.
+-- The state that a gas and the other parts of a run stand for, over what the gas and the source mean.
 use Rattle.gas.specs.declared.Gas as Gas
 use Rattle.twist.specs.declared.TwistSource as Twist
 use Rattle.dynamics.specs.Tunnels.{RunState}
 use Rattle.dynamics.specs.declared.state.State.{State}
 
-abbrev pub state_of : {G S : Type 0} (g : Gas.Ghosts G) (s : Twist.Ghosts S) → State G S → RunState
-state_of g s r = record {
-  gas = g.model r.gas;
-  entries = g.entries r.gas;
+abbrev pub state_of : {G S : Type 0} (g : Gas.Ghosts G) (s : Twist.Ghosts S) → G → State S → RunState
+state_of g s gas r = record {
+  gas = g.model gas;
+  entries = g.entries gas;
   twist = s.model r.source;
   mark = s.mark r.source;
   width = r.grid.width;

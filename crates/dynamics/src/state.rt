@@ -1,16 +1,14 @@
-// The state of a run: all that it is, but for its map and its field.
+// The state of a run: all that it is, but for its gas, its map and its field.
 ghost use Rattle.std.specs.Prelude.{◌≡◌};
 ghost use Rattle.dynamics.specs.Step.{fan_acts};
 
 use book::Book;
-use gas::Gas;
 use lattice::Grid;
 use twist::TwistSource;
 
-/// What a run holds between its calls.
-#[derive(Drop)]
-pub struct State<G: Gas, S: TwistSource> {
-    pub gas: G,
+/// What a run holds between its calls, beside its gas. The gas is lent to a step and stays as it is.
+#[derive(Clone, Copy)]
+pub struct State<S: TwistSource> {
     pub source: S,
     pub grid: Grid,
     /// The fan's period; 0 stops it.
@@ -20,12 +18,9 @@ pub struct State<G: Gas, S: TwistSource> {
     pub book: Book,
 }
 
-impl<G: Gas, S: TwistSource> State<G, S> {
-    /// Whether the fan acts: its period is not 0 and divides the step number.
-    pub fn fan_acts(&self) -> bool
-        ensures { result ≡ fan_acts self.now.period self.now.steps }
-    {
-        let period = self.period;
-        period != 0 && self.steps % period == 0
-    }
+/// Whether the fan acts in a step: its period is not 0 and divides the step's number.
+pub fn fan_acts(period: u32, step: u32) -> bool
+    ensures { result ≡ fan_acts period step }
+{
+    period != 0 && step % period == 0
 }

@@ -35,6 +35,7 @@ fn counted(count: u32, number: i64) -> i64
 fn is_clear(walls: &[u8]) -> bool
     ensures { result ≡ true → NoWall walls.now }
 {
+    // Not `all`, which stops at the first wall: where no test leaves the loop, the compiler makes many at once.
     let mut clear = true;
     for byte in walls {
         if let Role::Wall(_) = Role::from(*byte) {
@@ -50,7 +51,7 @@ pub fn settle_walls<G: Gas>(gas: &G, map: &[u8], field: &[u8], book: &mut Book)
     requires modest { Modest book.old.accounts }
     ensures { Settled (G.model gas.now) map.now field.now book.old.accounts book.new.accounts (length map.now) }
 {
-    // A stretch is cut by its number, since the field is read at its walls' places, and these are the map's.
+    // Not by zipped chunks: of what a zip yields a proof knows by its iterator alone, and the accounts are told by the map's places.
     for stretch in 0..map.len().div_ceil(STRETCH) {
         let start = stretch * STRETCH;
         let walls = &map[start..map.len().min(start + STRETCH)];

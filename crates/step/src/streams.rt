@@ -14,7 +14,7 @@ pub fn stream_rows<G: Gas>(gas: &G, grid: Grid, from: &[u8], field: &mut [u8])
 {
     let width = grid.width() as usize;
     let height = grid.height() as usize;
-    // As in the collision, each row is lent the field from its first cell to the end.
+    // Not by `chunks_exact_mut`: after it a proof knows the length of the field and none of its bytes.
     for row in 0..height {
         gas.stream_row(grid, row, from, &mut field[row * width..]);
     }

@@ -31,13 +31,12 @@ asked_more s a b = λ j. record {
 
 pub loop-row-init : goal.loop-row-init
 loop-row-init g c =
-    let s = state_of g.G.Gas g.S.TwistSource c.args.state.now in
+    let s = state_of g.G.Gas g.S.TwistSource c.args.gas.now c.args.state.now in
     let t = scene_of s c.args.map.now c.args.field.now in
     let z : 0 ≡ 0 * s.width = sym (zero-mul s.width) in (
       filled_none (collided_at t) c.args.spare.now s.width,
       sum_n_start (λ i. cond (turns_at t i) 1 0) ∙ ap (λ (n : ℕ). count_n n (turns_at t)) z,
       ap (λ (n : ℕ). asked n s) z,
-      refl,
     )
 
 pub slice_bounds-row_pass-count : goal.slice_bounds-row_pass-count
@@ -83,7 +82,7 @@ overflow_add-turned g c =
 
 pub loop-row-preserved : goal.loop-row-preserved
 loop-row-preserved g c =
-    let s = state_of g.G.Gas g.S.TwistSource c.args.state.now in
+    let s = state_of g.G.Gas g.S.TwistSource c.args.gas.now c.args.state.now in
     let map = c.args.map.now in
     let field = c.args.field.now in
     let t = scene_of s map field in
@@ -100,7 +99,7 @@ loop-row-preserved g c =
     let long : length ys ≡ length xs - r * w = c.row_pass-turned.auto.spare ∙ part_long xs (r * c.width-width.result) (omega arith) ∙ ap (λ (v : ℕ). length xs - r * v) wide in
     let part = take (length xs - r * c.width-width.result) (drop (r * c.width-width.result) xs) in
     let told = subst (λ (x : RunState). RowCollided x.width (cell_in x r map field) part ys c.row_pass-turned.result) inv.2 c.row_pass-turned.ensures.row in
-    let after : state_of g.G.Gas g.S.TwistSource c.row_pass-turned.new.state ≡ asked ((r + 1) * w) s =
+    let after : state_of g.G.Gas g.S.TwistSource c.args.gas.now c.row_pass-turned.new.state ≡ asked ((r + 1) * w) s =
     c.row_pass-turned.ensures.run ∙ ap (λ (x : RunState). asked x.width x) inv.2 ∙ asked_more s (r * w) w ∙ ap (λ (n : ℕ). asked n s) (sym (row_next r w)) in (
       subst (λ (v : ℕ). Filled ((r + 1) * w) (collided_at t) c.args.spare.now (put_mid (r * v) (length xs - r * v) xs ys)) (sym wide)
           (filled_more (collided_at t) c.args.spare.now xs ys r w fits long
@@ -109,12 +108,11 @@ loop-row-preserved g c =
           inv.0),
       ap (λ (n : ℕ). n + c.row_pass-turned.result) inv.1 ∙ count_rows s map field r c.row_pass-turned.result below told.turned,
       after,
-      c.row_pass-turned.ensures.gas ∙ inv.3,
     )
 
 pub returns : goal.returns
 returns g c =
-    let s = state_of g.G.Gas g.S.TwistSource c.args.state.now in
+    let s = state_of g.G.Gas g.S.TwistSource c.args.gas.now c.args.state.now in
     let w = s.width in
     let h = s.height in
     let end : c.loop-row.row * w ≡ w * h = ap (λ (x : ℕ). x * w) (let q : c.loop-row.row ≡ h = omega (arith, c.loop-row-test.false, c.loop-row.auto.row-end, c.height-height.ensures.value) in q) ∙ mul_comm h w in
@@ -125,5 +123,4 @@ returns g c =
         turned = c.loop-row.invariant.1 ∙ ap (λ (n : ℕ). count_n n (turns_at t)) end;
       };
       run = c.loop-row.invariant.2 ∙ ap (λ (n : ℕ). asked n s) end;
-      gas = c.loop-row.invariant.3;
     }

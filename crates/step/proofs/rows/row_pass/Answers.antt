@@ -27,7 +27,7 @@ bounds-field-start g c =
 
 pub loop-column-preserved : goal.loop-column-preserved
 loop-column-preserved g c =
-    let s = state_of g.G.Gas g.S.TwistSource c.args.state.now in
+    let s = state_of g.G.Gas g.S.TwistSource c.args.gas.now c.args.state.now in
     let i = c.loop-column.column in
     let row = c.args.row in
     let map = c.args.map.now in

@@ -56,7 +56,7 @@ stream_rows-requires g c =
 
 pub settle_fan-requires : goal.settle_fan-requires
 settle_fan-requires g c =
-    let s = state_of g.G.Gas g.S.TwistSource c.args.state.now in
+    let s = state_of g.G.Gas g.S.TwistSource c.args.gas.now c.args.state.now in
     let n = cells s in
     let map = c.args.map.now in
     let field = c.args.field.now in
@@ -75,7 +75,7 @@ settle_fan-requires g c =
 
 pub returns : goal.returns
 returns g c =
-    let s = state_of g.G.Gas g.S.TwistSource c.args.state.now in
+    let s = state_of g.G.Gas g.S.TwistSource c.args.gas.now c.args.state.now in
     let n = cells s in
     let map = c.args.map.now in
     let field = c.args.field.now in
@@ -93,7 +93,6 @@ returns g c =
     record {
       field = field_after t sound c.args.spare.now spare field c.stream_rows.new.field fits c.stream_rows.auto.field all.spare moves;
       spare = filled_over n _ c.args.spare.now spare c.requires.spare c.collide_rows-turned.auto.spare all.spare;
-      gas = c.collide_rows-turned.ensures.gas;
       run = λ j. record {
         gas = (same j).gas;
         entries = (same j).entries;
