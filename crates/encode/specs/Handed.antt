@@ -1,4 +1,4 @@
--- The tunnel that is handed over: the state of a run, and the cells' bytes at the front of map and field.
+-- The tunnel that is handed over: a gas, the state of a run, and the cells' bytes at the front of map and field.
 use Rattle.std.specs.Prelude.{List, ℕ, take}
 use Rattle.gas.specs.declared.Gas as Gas
 use Rattle.twist.specs.declared.TwistSource as Twist
@@ -12,4 +12,4 @@ tunnel_from run map field = record { run = run; map = take (cells run) map; fiel
 
 -- what the program holds, as such a tunnel
 abbrev pub held : {G S : Type 0} → (g : Gas.Ghosts G) → (s : Twist.Ghosts S) → Held G S g s → Tunnel
-held g s h = tunnel_from (state_of g s h.state.now) h.map.now h.field.now
+held g s h = tunnel_from (state_of g s h.gas.now h.state.now) h.map.now h.field.now

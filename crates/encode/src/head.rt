@@ -15,7 +15,7 @@ impl<'a, G: Gas, S: TwistSource> Held<'a, G, S> {
     fn put_head(&self, sheet: &mut Sheet)
         ensures { Adds (head_bytes (held G.Gas S.TwistSource self.now).run) sheet.old sheet.new }
     {
-        sheet.put_bytes(&[self.state.gas.kind(), self.state.source.kind()]);
+        sheet.put_bytes(&[self.gas.kind(), self.state.source.kind()]);
         sheet.put_bytes(&two_bytes(self.state.grid.width()));
         sheet.put_bytes(&two_bytes(self.state.grid.height()));
         sheet.put_bytes(&two_bytes(self.state.period));

@@ -21,6 +21,7 @@ fn is_foreign(outcome: &Result<usize, CallFault>) -> bool
     )
 }
 
+// The buffers go on one by one, as `work` asks for them.
 /// Works the job on this gas with parity, and with the register if it is foreign to that.
 fn work_on<G: Gas + Copy>(
     gas: G,

@@ -15,7 +15,7 @@ pub const MOST_CELLS: usize = 16_384;
 /// No report is longer.
 pub const LONGEST_REPORT: usize = 65_536;
 
-// The four buffers are not one struct: two of them are lent to a call at a time, one to read and one to write, which no proof is made for through a struct's references.
+// Tried as one struct of lent buffers: the borrow checker covers no `&` that is made through a struct's `&mut`.
 /// Opens the file in a new run of this gas and this source, takes the steps, and writes the report.
 pub fn work<G: Gas + Drop, S: TwistSource>(
     gas: G,

@@ -8,7 +8,7 @@ use Rattle.calls.specs.Logs.{Scene}
 use Rattle.run.specs.declared.run.Run.{Run}
 
 abbrev pub view : {G S : Type 0} (g : Gas.Ghosts G) (s : Twist.Ghosts S) → Run G S g s → RunState
-view g s r = state_of g s r.state
+view g s r = state_of g s r.gas r.state
 
 -- a run's state with its map and its field
 abbrev pub scene_in : RunState → List ℕ → List ℕ → Scene

@@ -27,7 +27,7 @@ impl<G: Gas, S: TwistSource> Run<G, S> {
         judge_length(field, cells, CallFault::ShortField)?;
         judge_length(spare, cells, CallFault::ShortSpare)?;
         judge_map(map, cells)?;
-        judge_field(field, cells, states_of(self.state.gas.channels()))?;
+        judge_field(field, cells, states_of(self.gas.channels()))?;
         if k == 0 || k > MOST_STEPS {
             return Err(CallFault::Argument(1));
         }
@@ -48,7 +48,7 @@ impl<G: Gas, S: TwistSource> Run<G, S> {
         ensures { Advanced (view G.Gas S.TwistSource self.old) k map.now field.old spare.old result (view G.Gas S.TwistSource self.new) field.new spare.new }
     {
         self.judge_advance(k, map, field, spare)?;
-        take_steps(&mut self.state, k, map, field, spare);
+        take_steps(&self.gas, &mut self.state, k, map, field, spare);
         Ok(self.state.steps)
     }
 }

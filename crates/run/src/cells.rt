@@ -38,10 +38,10 @@ impl<G: Gas, S: TwistSource> Run<G, S> {
 
     /// As `blank` leaves the run itself.
     fn restart(&mut self, grid: Grid)
-        ensures { view G.Gas S.TwistSource self.new ≡ blank_run (G.Gas.model self.old.state.gas) (S.TwistSource.model self.old.state.source) grid.width grid.height }
+        ensures { view G.Gas S.TwistSource self.new ≡ blank_run (G.Gas.model self.old.gas) (S.TwistSource.model self.old.state.source) grid.width grid.height }
     {
         let first = self.state.source.first_mark();
-        self.state.gas.house();
+        self.gas.house();
         let _ = self.state.source.set_mark(first);
         self.state.grid = grid;
         self.state.period = 0;

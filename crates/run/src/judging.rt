@@ -1,4 +1,5 @@
 // The grounds that calls share.
+// The cells are counted beside the buffers: a buffer may be longer than its grid, and a refusal is told of it as it was lent.
 ghost use Rattle.std.specs.Prelude.{◌≡◌, ℕ, ◌≤◌, length, nat_lt};
 ghost use Rattle.calls.specs.Grounds.{fault_if, map_fault, field_fault};
 ghost use Rattle.calls.specs.Outcomes.{reply};

@@ -18,9 +18,9 @@ use twist::TwistSource;
 impl<G: Gas, S: TwistSource> Run<G, S> {
     /// How many bytes the run's file has.
     fn file_length(&self) -> usize
-        ensures { result ≡ file_length (G.Gas.model self.now.state.gas) (cell_count (view G.Gas S.TwistSource self.now)) }
+        ensures { result ≡ file_length (G.Gas.model self.now.gas) (cell_count (view G.Gas S.TwistSource self.now)) }
     {
-        320 + 2 * states_of(self.state.gas.channels()) + 2 * self.state.grid.cells()
+        320 + 2 * states_of(self.gas.channels()) + 2 * self.state.grid.cells()
     }
 
     /// The first ground on which `mark` is refused.
@@ -31,7 +31,7 @@ impl<G: Gas, S: TwistSource> Run<G, S> {
         judge_length(map, cells, CallFault::ShortMap)?;
         judge_length(field, cells, CallFault::ShortField)?;
         judge_map(map, cells)?;
-        judge_field(field, cells, states_of(self.state.gas.channels()))?;
+        judge_field(field, cells, states_of(self.gas.channels()))?;
         if out.len() < self.file_length() {
             return Err(CallFault::ShortOutput);
         }
@@ -44,6 +44,7 @@ impl<G: Gas, S: TwistSource> Run<G, S> {
     {
         self.judge_mark(map, field, out)?;
         let held = Held {
+            gas: &self.gas,
             state: &self.state,
             map,
             field,
@@ -53,9 +54,9 @@ impl<G: Gas, S: TwistSource> Run<G, S> {
 
     /// How large an output `mark` is to be given: what it needs, and at most 24 bytes more.
     pub fn size(&self) -> usize
-        ensures enough { file_length (G.Gas.model self.now.state.gas) (cell_count (view G.Gas S.TwistSource self.now)) ≤ result }
-        ensures near { result ≤ file_length (G.Gas.model self.now.state.gas) (cell_count (view G.Gas S.TwistSource self.now)) + 24 }
+        ensures enough { file_length (G.Gas.model self.now.gas) (cell_count (view G.Gas S.TwistSource self.now)) ≤ result }
+        ensures near { result ≤ file_length (G.Gas.model self.now.gas) (cell_count (view G.Gas S.TwistSource self.now)) + 24 }
     {
-        (self.file_length() + 15) / 16 * 16
+        self.file_length().next_multiple_of(16)
     }
 }

@@ -30,7 +30,7 @@ impl<G: Gas, S: TwistSource> Run<G, S> {
     fn judge_open(&self, file: &[u8], map: &[u8], field: &[u8]) -> Result<Job, CallFault>
         ensures { Judged (open_fault (view G.Gas S.TwistSource self.now) file.now map.now field.now) (IsJob file.now) result }
     {
-        let job = judge_job(&self.state.gas, &self.state.source, file)?;
+        let job = judge_job(&self.gas, &self.state.source, file)?;
         let cells = job.grid.cells();
         judge_length(map, cells, CallFault::ShortMap)?;
         judge_length(field, cells, CallFault::ShortField)?;
@@ -53,10 +53,10 @@ impl<G: Gas, S: TwistSource> Run<G, S> {
 
     /// Takes what a judged file says of the run itself.
     fn take_job(&mut self, file: &[u8], job: Job)
-        requires { (IsJob file.now job) × (job_fault (G.Gas.model self.old.state.gas) (S.TwistSource.model self.old.state.source) file.now ≡ None) }
-        ensures { view G.Gas S.TwistSource self.new ≡ run_in (G.Gas.model self.old.state.gas) (S.TwistSource.model self.old.state.source) (parts_of file.now) }
+        requires { (IsJob file.now job) × (job_fault (G.Gas.model self.old.gas) (S.TwistSource.model self.old.state.source) file.now ≡ None) }
+        ensures { view G.Gas S.TwistSource self.new ≡ run_in (G.Gas.model self.old.gas) (S.TwistSource.model self.old.state.source) (parts_of file.now) }
     {
-        let _ = self.state.gas.load(job.places.rules.payload(file));
+        let _ = self.gas.load(job.places.rules.payload(file));
         let _ = self.state.source.set_mark(job.head.mark);
         self.state.grid = job.grid;
         self.state.period = job.head.period;

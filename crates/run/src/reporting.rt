@@ -22,7 +22,7 @@ impl<G: Gas, S: TwistSource> Run<G, S> {
     {
         let cells = self.state.grid.cells();
         judge_length(field, cells, CallFault::ShortField)?;
-        judge_field(field, cells, states_of(self.state.gas.channels()))?;
+        judge_field(field, cells, states_of(self.gas.channels()))?;
         if b == 0 || b > WIDEST_PATCH {
             return Err(CallFault::Argument(1));
         }
@@ -38,7 +38,7 @@ impl<G: Gas, S: TwistSource> Run<G, S> {
     {
         self.judge_patches(b, field)?;
         let shown = Shown {
-            gas: &self.state.gas,
+            gas: &self.gas,
             grid: self.state.grid,
             steps: self.state.steps,
             book: &self.state.book,

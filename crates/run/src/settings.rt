@@ -21,14 +21,13 @@ impl<G: Gas, S: TwistSource> Run<G, S> {
         gas.house();
         let _ = source.set_mark(source.first_mark());
         let state = State {
-            gas,
             source,
             grid: Grid::smallest(),
             period: 0,
             steps: 0,
             book: Book::new(),
         };
-        Run { state }
+        Run { gas, state }
     }
 
     /// Sets the fan's period; 0 stops it.

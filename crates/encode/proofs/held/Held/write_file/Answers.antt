@@ -22,7 +22,7 @@ returns g c =
     (adds_then (adds_same (ap (record_of 6) c.book_bytes.ensures) c.put_record-5.ensures)
     (adds_same (sym (append-nil (record_of 1 []))) c.put_record-6.ensures))))) in
     let long : length (file_of t) ≡ file_length t.run.gas (cells t.run) =
-    length_file t (g.met.G.Gas.sound s.state.now.gas).full (length-take-le (cells t.run) s.map.now s.mapped) (length-take-le (cells t.run) s.field.now s.filled) s.state.now.book.full in
+    length_file t (g.met.G.Gas.sound s.gas.now).full (length-take-le (cells t.run) s.map.now s.mapped) (length-take-le (cells t.run) s.field.now s.filled) s.state.now.book.full in
     let bytes : c.new-sheet.result.out.now ≡ c.args.out.now = c.new-sheet.ensures.bytes in
     let room : length (file_of t) ≤ length c.new-sheet.result.out.now = rw bytes (omega (arith, long, c.requires)) in
     let done = filled c.new-sheet.ensures.place room puts in

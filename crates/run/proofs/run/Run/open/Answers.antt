@@ -32,7 +32,7 @@ roomy : (g : given.Over) (c : In_ok-job g) → Room (view g.G.Gas g.S.TwistSourc
 roomy g c = room _ _ _ _ (unfaulted g c)
 
 -- its payloads keep the rules
-kept : (g : given.Over) (c : In_ok-job g) → Keeps (g.G.Gas.model c.args.self.now.state.gas) (g.S.TwistSource.model c.args.self.now.state.source) (parts c.args.file.now c.in_ok-job.job.places)
+kept : (g : given.Over) (c : In_ok-job g) → Keeps (g.G.Gas.model c.args.self.now.gas) (g.S.TwistSource.model c.args.self.now.state.source) (parts c.args.file.now c.in_ok-job.job.places)
 kept g c = file_keeps _ _ _ _ (job_is g c).places (roomy g c).faultless
 
 -- and its parts are at its places
@@ -92,5 +92,5 @@ returns g c =
     (c.copy_over.ensures ∙ ap over-map (c.payload.ensures ∙ sym (ap (bytes_at 2) (found g at))))
     (c.copy_over-2.ensures ∙ ap over-field (c.payload-2.ensures ∙ sym (ap (bytes_at 3) (found g at)))) in
     let bytes = All-from_get_or (λ b. b < 256) file 0 (λ i h. (c.type_inv.file i).fits) in
-    let begins = open_begins s (g.met.G.Gas.lawful c.args.self.now.state.gas) (g.met.S.TwistSource.lawful c.args.self.now.state.source) file map field bytes _ _ _ o in
+    let begins = open_begins s (g.met.G.Gas.lawful c.args.self.now.gas) (g.met.S.TwistSource.lawful c.args.self.now.state.source) file map field bytes _ _ _ o in
     record { outcome = o; law = λ _. begins.0; returns = λ _. begins.1; exactly = opens s file map field _ _ _ _ bytes o }

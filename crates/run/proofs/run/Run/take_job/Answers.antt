@@ -11,7 +11,7 @@ use Rattle.run.proofs.run.Run.take_job.Goals as goal
 use Rattle.run.proofs.run.Run.take_job.Goals.{After-payload-2}
 
 -- the payloads keep the rules
-kept : (g : given.Over) (c : After-payload-2 g) → Keeps (g.G.Gas.model c.args.self.now.state.gas) (g.S.TwistSource.model c.args.self.now.state.source) (parts c.args.file.now c.args.job.places)
+kept : (g : given.Over) (c : After-payload-2 g) → Keeps (g.G.Gas.model c.args.self.now.gas) (g.S.TwistSource.model c.args.self.now.state.source) (parts c.args.file.now c.args.job.places)
 kept g c = file_keeps _ _ c.args.file.now c.args.job.places c.requires.0.places c.requires.1
 
 pub read_book-self-requires : goal.read_book-self-requires
