@@ -1,12 +1,15 @@
 -- The number whose decimal text a text is.
-use Rattle.std.proofs.Common.{◌≡◌, ℕ, ◌+◌, ◌^◌, ◌<◌, ◌≤◌, Bool, true, false, ◌&&◌, eqb, leb, List, length, get_or, Some, None, Ok, Err, Result, decimal, sym, refl, ap, ◌∙◌, subst, inl, inr, arith}
+use Rattle.std.proofs.Common.{◌≡◌, ℕ, ◌+◌, ◌^◌, ◌<◌, ◌≤◌, Bool, true, false, ◌&&◌, eqb, leb, List, length, get_or, Some, None, IfSome, Ok, Err, Result, decimal, sym, refl, ap, ◌∙◌, subst, inl, inr, arith}
 use lib.Pointwise.{pointwise}
 use Rattle.std.specs.Cmp.Lexicographic.{same_text}
 use Rattle.std.proofs.lemmas.Cmp.{nat_list_eq_equiv}
 use Rattle.std.specs.Int.{IsInRange}
+use Rattle.std.specs.Result.{MatchResult, result_ok}
+use Rattle.std.specs.Bool.{then_some}
 use Rattle.std.specs.Str.{IsUtf8}
 use Rattle.std.specs.Str.Parse.{AllDigits, digits_value, ParsesUnsigned}
-use Rattle.std.proofs.lemmas.Bool.{le-leb, leb-true, and_parts, cases_lt}
+use Rattle.std.proofs.lemmas.Option.{none-some, same_Some}
+use Rattle.std.proofs.lemmas.Bool.{le-leb, lt-leb, leb-true, and_parts, cases_lt}
 use Rattle.std.proofs.lemmas.Fmt.{decimal_digit, decimal_nonempty, decimal_is_IsNumeral, first_decimal, decimal_injective, decimal-digits_value, parse-decimal, IsAscii-decimal}
 use Rattle.std.proofs.lemmas.Str.{IsUtf8-from_ascii}
 use Rattle.std.proofs.lemmas.Str.Parse.{IsNumeralModel, numerals_by_value, tells_digits, digit_at, parse_plain}
@@ -38,6 +41,15 @@ some_up_to most text v fits low high is =
 own : IsNumeralModel (AllDigits 10) (digits_value 10)
 own = numerals_by_value (AllDigits 10) tells_digits
 
+-- what is told of a result of which only the value is kept
+pub if_none : {T E : Type 0} (P : T → Type 0) (Q : E → Type 0) (G : Type 0) (r : Result T E) → None ≡ result_ok r → MatchResult r P Q → ((e : E) → Q e → G) → G
+if_none P Q G (Ok x) none told then = absurd (none-some x none)
+if_none P Q G (Err e) none told then = then e told
+
+pub is_kept : {T E : Type 0} (r : Result T E) (x : T) → Some x ≡ result_ok r → r ≡ Ok x
+is_kept (Ok y) x some = ap Ok (same_Some y x (sym some))
+is_kept (Err e) x some = absurd (none-some x (sym some))
+
 module _ (most : ℕ) (small : most < 2 ^ 32) (text : List ℕ) where
   pub empty_none : length text ≡ 0 → number_up_to most text ≡ None
   empty_none e = none_up_to most text (λ k low high is. omega (arith, e, ap length is, decimal_nonempty k (omega (arith, high, small))))
@@ -58,11 +70,11 @@ module _ (most : ℕ) (small : most < 2 ^ 32) (text : List ℕ) where
     read : (r : Result ℕ E) → ParsesUnsigned 32 10 text r → (k : ℕ) → k ≤ most → text ≡ decimal k → r ≡ Ok k
     read r parsed k high is = parse-decimal 32 k text r (omega (arith, high, small)) (omega (arith, high, small)) is parsed
 
-    pub unread_none : (e : E) → ParsesUnsigned 32 10 text (Err e) → number_up_to most text ≡ None
-    unread_none e parsed = none_up_to most text (λ k low high is. let z : ◌≡◌ {A = ℕ} 0 1 = cc (read (Err e) parsed k high is) in omega (arith, z))
+    pub unread_none : (r : Result ℕ E) → None ≡ result_ok r → ParsesUnsigned 32 10 text r → number_up_to most text ≡ None
+    unread_none r none parsed = none_up_to most text (λ k low high is. none-some k (none ∙ ap result_ok (read r parsed k high is)))
 
     module _ (v : ℕ) (parsed : ParsesUnsigned {E = E} 32 10 text (Ok v)) where
-      pub large_none : most < v → number_up_to most text ≡ None
+      large_none : most < v → number_up_to most text ≡ None
       large_none over = none_up_to most text (λ k low high is. let same : v ≡ k = cc (read (Ok v) parsed k high is) in omega (arith, over, high, same))
 
       module _ (first : IsInRange 49 57 (get_or text 0 0)) where
@@ -71,7 +83,7 @@ module _ (most : ℕ) (small : most < 2 ^ 32) (text : List ℕ) where
             let p = parse_plain own {E = E} 32 text (Ok v) parsed (λ e. omega (arith, first.0, e)) in
             sym (ap decimal p.1 ∙ decimal-digits_value own text p.0.0 p.0.1 (λ z. absurd (omega (arith, first.0, z))) (omega (arith, p.0.2)))
 
-        pub one_or_more : 1 ≤ v
+        one_or_more : 1 ≤ v
         one_or_more =
             elim (cases_lt v 1) [
               | inl none ↦
@@ -81,5 +93,20 @@ module _ (most : ℕ) (small : most < 2 ^ 32) (text : List ℕ) where
               | inr some ↦ some
             ]
 
-        pub some_number : v ≤ most → number_up_to most text ≡ Some v
+        some_number : v ≤ most → number_up_to most text ≡ Some v
         some_number fits = some_up_to most text v (omega (arith, small)) one_or_more fits written
+
+        -- the number, if it is not too large
+        pub limited_number : then_some (leb v most) v ≡ number_up_to most text
+        limited_number =
+            elim (cases_lt most v) [
+              | inl over ↦ ap (λ (b : Bool). then_some b v) (lt-leb v most over) ∙ sym (large_none over)
+              | inr fits ↦ ap (λ (b : Bool). then_some b v) (le-leb v most fits) ∙ sym (some_number fits)
+            ]
+
+        pub limited_range : IfSome (then_some (leb v most) v) (λ n. (1 ≤ n) × (n ≤ most))
+        limited_range =
+            elim (cases_lt most v) [
+              | inl over ↦ subst (λ (b : Bool). IfSome (then_some b v) (λ n. (1 ≤ n) × (n ≤ most))) (sym (lt-leb v most over)) tt
+              | inr fits ↦ subst (λ (b : Bool). IfSome (then_some b v) (λ n. (1 ≤ n) × (n ≤ most))) (sym (le-leb v most fits)) (one_or_more, fits)
+            ]

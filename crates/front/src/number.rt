@@ -14,11 +14,7 @@ pub fn number_up_to(most: u32, text: &[u8]) -> Option<u32>
     if !(b'1'..=b'9').contains(&first) {
         return None;
     }
-    let Ok(digits) = str::from_utf8(text) else {
-        return None;
-    };
-    let Ok(number) = digits.parse::<u32>() else {
-        return None;
-    };
-    if number <= most { Some(number) } else { None }
+    let digits = str::from_utf8(text).ok()?;
+    let number = digits.parse::<u32>().ok()?;
+    (number <= most).then_some(number)
 }

@@ -27,6 +27,7 @@ pub trait Gas {
 
     ghost entries: { Self → List ℕ };
 
+    // A number and no enum: gases that customers bring have kinds of their own.
     fn kind(&self) -> u8
         ensures { result ≡ (model self.now).kind };
 

@@ -23,7 +23,7 @@ pub struct Settings {
 }
 
 /// The kinds are those of this gas and this source.
-// Here and in the next two the record's number and the head stay two arguments: a struct of both would be made for them alone.
+// Here and below gas and source stay apart, as callers lend them, and so do number and head, since a fault tells the number alone: a struct of either pair would be made for these calls alone.
 pub fn judge_kinds<G: Gas, S: TwistSource>(
     gas: &G,
     source: &S,

@@ -44,11 +44,10 @@ impl<'a> Payload<'a> {
         ensures { result ≡ judgment (rules_fault (G.model gas.now) self.now.number self.now.bytes.now) }
     {
         self.judge_length(2 * states_of(gas.channels()))?;
-        // A `match`, since a closure for `map_err` that takes the place out of the fault would need a contract of its own.
-        match gas.first_unsound(self.bytes) {
-            Ok(()) => Ok(()),
-            Err(TableFault::Unsound(place)) => Err(JobFault::Entry(self.number, place)),
-        }
+        let number = self.number;
+        gas.first_unsound(self.bytes).map_err(|TableFault::Unsound(place)| JobFault::Entry(
+            number, place,
+        ))
     }
 
     /// The map has a byte for each cell, none above the highest.

@@ -1,4 +1,4 @@
-// Bytes that are numbers below a limit.
+// The first byte that is no number below a limit.
 ghost use Rattle.std.specs.Prelude.{◌≡◌, nat_le, position};
 
 /// The place of the first byte that is no number below this limit.

@@ -39,10 +39,9 @@ pub fn read_header(bytes: &[u8]) -> Option<(Header, &[u8])>
 pub fn check_of(payload: &[u8]) -> u32
     ensures { result ≡ check_of payload.now }
 {
-    let mut weight: u32 = 0;
     let mut sum: u32 = 1;
-    for byte in payload {
-        weight = weight.wrapping_add(1);
+    for (i, byte) in payload.iter().enumerate() {
+        let weight = ((i & 0xffff_ffff) as u32).wrapping_add(1);
         sum = sum.wrapping_add(weight.wrapping_mul(u32::from(*byte)));
     }
     sum

@@ -75,9 +75,7 @@ fn judge_record(bytes: &[u8], c: Cursor) -> Result<ControlFlow<Places, Cursor>, 
     if bytes.is_empty() {
         return Err(RecordFault::Ending(record));
     }
-    let Some((header, rest)) = read_header(bytes) else {
-        return Err(RecordFault::Cut(record));
-    };
+    let (header, rest) = read_header(bytes).ok_or(RecordFault::Cut(record))?;
     let length = header.length as usize;
     if rest.len() < length {
         return Err(RecordFault::Cut(record));

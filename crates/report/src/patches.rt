@@ -13,7 +13,6 @@ use super::lines::put_patch;
 use super::patch::Patch;
 use super::shown::Shown;
 use gas::{Gas, Totals, field_totals};
-use lattice::Vector;
 use text::Sheet;
 
 impl<'a, G: Gas> Shown<'a, G> {
@@ -35,10 +34,7 @@ impl<'a, G: Gas> Shown<'a, G> {
         ensures particles { let s = told G.Gas self.now in result.particles ≡ sum_n rows (λ (j : ℕ). sum_n columns (λ (k : ℕ). particles_at s.gas s.field (cell_at s.width (column + k) (row + j)))) }
         ensures momentum { let s = told G.Gas self.now in result.momentum ≡ sum_v rows (λ (j : ℕ). sum_v columns (λ (k : ℕ). momentum_at s.gas s.field (cell_at s.width (column + k) (row + j)))) }
     {
-        let mut totals = Totals {
-            particles: 0,
-            momentum: Vector::default(),
-        };
+        let mut totals = Totals::default();
         for line in 0..rows {
             let stretch = self.stretch_totals(column, row + line, columns);
             totals.particles += stretch.particles;

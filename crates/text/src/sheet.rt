@@ -21,7 +21,16 @@ impl<'a> Sheet<'a> {
         ensures bytes { result.out.now ≡ out.old }
         ensures place { result.at ≡ 0 }
     {
-        Sheet { out, at: 0 }
+        Sheet::starting_at(out, 0)
+    }
+
+    /// A sheet on which the next byte goes to this place.
+    pub fn starting_at(out: &'a mut [u8], at: usize) -> Sheet<'a>
+        ensures buffer { result.out.ghost_name ≡ out.entry.ghost_name }
+        ensures bytes { result.out.now ≡ out.old }
+        ensures place { result.at ≡ at }
+    {
+        Sheet { out, at }
     }
 
     /// The place behind what was put.

@@ -22,6 +22,7 @@ pub trait TwistSource: Copy {
 
     ghost mark: { Self → ℕ };
 
+    // A number and no enum: sources that customers bring have kinds of their own.
     fn kind(&self) -> u8
         ensures { result ≡ (model self.now).kind };
 

@@ -10,10 +10,11 @@ use Rattle.report.proofs.Stretches.{stretch_few, particles_few, momentum_fits, m
 use Rattle.report.proofs.shown.Shown.block_totals.Goals as goal
 
 pub loop-line-init : goal.loop-line-init
-loop-line-init g c = record {
-  particles = sum_n_start _;
-  momentum = same_vector _ _ (c.default.ensures.0 ∙ sum_start _) (c.default.ensures.1 ∙ sum_start _);
-}
+loop-line-init g c =
+    let none = c.default-totals.ensures in record {
+      particles = none.0 ∙ sum_n_start _;
+      momentum = same_vector _ _ (none.1.0 ∙ sum_start _) (none.1.1 ∙ sum_start _);
+    }
 
 pub overflow_add-totals : goal.overflow_add-totals
 overflow_add-totals g c =
