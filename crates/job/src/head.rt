@@ -3,6 +3,7 @@ ghost use Rattle.std.specs.Prelude.{◌≡◌, ℕ, ◌≢◌, length, MatchOpti
 ghost use Rattle.job.specs.Heads.{head_of, head_length};
 
 /// What a head says.
+// Kinds are the bytes as they stand: which kinds there are is for gases and sources to say.
 #[derive(Clone, Copy, Debug, PartialEq)]
 pub struct Head {
     pub gas: u8,

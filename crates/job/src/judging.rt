@@ -42,6 +42,7 @@ pub fn judge_kinds<G: Gas, S: TwistSource>(
 }
 
 /// The fault of a width or a height that stands in this record.
+// No `From`: the fault alone does not know its record.
 pub fn grid_fault(number: usize, fault: GridFault) -> JobFault
     ensures { Some result ≡ grid_fault number (Err fault) }
 {

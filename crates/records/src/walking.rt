@@ -15,7 +15,8 @@ use std::ops::ControlFlow;
 /// No file is longer.
 pub const LARGEST_FILE: usize = 65_536;
 
-// How far the walk has come: the place in the file, the records so far, their order, and what was noted.
+// How far the walk has come: the place in the file, the records so far, their order, and what was noted. A place and no slice, since payloads are
+// noted by their places.
 #[derive(Clone, Copy)]
 struct Cursor {
     at: usize,
