@@ -1,11 +1,8 @@
 -- Cells by number, and by column and row.
-use Rattle.std.proofs.Common.{◌≡◌, ℕ, ◌+◌, ◌*◌, ◌<◌, ◌≤◌, sym, subst, mul_comm, add-mul, one-mul, arith}
+use Rattle.std.proofs.Common.{◌≡◌, ℕ, ◌+◌, ◌*◌, ◌<◌, ◌≤◌, mul_comm, add-mul, one-mul, arith}
 use Rattle.std.proofs.lemmas.Nat.{div-add-mod', div-mul-add, mod-mul-add, mod_below, div_below, mul-le}
 use Rattle.lattice.specs.declared.grid.Grid.{Grid}
-use Rattle.lattice.specs.declared.rows.Rows.{Rows}
 use Rattle.lattice.specs.Grids.{Lawful, cell_at, column_of, row_of}
-use Rattle.lattice.specs.Sources.{rows_around, RowsWithin}
-use Rattle.lattice.proofs.Rings.{onward_in, backward_in}
 
 -- every grid keeps the rules
 pub lawful_grid : (g : Grid) → Lawful g.width g.height
@@ -35,9 +32,3 @@ column_in w i p = mod_below i w p
 
 pub row_in : (w h i : ℕ) → 0 < w → i < w * h → row_of w i < h
 row_in w h i p l = div_below i w h p (omega (arith, mul_comm w h))
-
--- a row and the rows beside it lie within the grid
-pub rows_within : (w h r : ℕ) (rows : Rows) → r < h → rows ≡ rows_around w h r → RowsWithin (w * h) w rows
-rows_within w h r rows l around =
-    subst (RowsWithin (w * h) w) (sym around)
-    record { here_in = row_fits_lem r w h l; south_in = row_fits_lem _ w h (backward_in h r (omega arith)); north_in = row_fits_lem _ w h (onward_in h r (omega arith)) }

@@ -27,11 +27,6 @@ fanned_steps {s} {t} {p} f = ap (λ (v : RunState). v.steps) f.run ∙ period_al
 advanced_steps : {s t : RunState} {k n : ℕ} {map field spare field' spare' : List ℕ} → Advanced s k map field spare (Ok n) t field' spare' → n ≡ s.steps + k
 advanced_steps {s} {t} {k} {n} {map} {field} {spare} a = answered (advance_fault s k map field spare) n (s.steps + k) a.answer
 
-pub returns-in_err-steps : goal.returns-in_err-steps
-returns-in_err-steps c =
-    let told = err_from_is_err_and c.from_residual-in_err-steps.result c.from_residual-in_err-steps.ensures.1 in
-    subst (λ r. IfOk r (λ drag. drag.steps ≡ 200)) (sym told.1) tt
-
 pub returns : goal.returns
 returns c =
     advanced_steps c.in_ok-steps.ensures

@@ -1,9 +1,9 @@
-use Rattle.std.proofs.Common.{◌≡◌, ℕ, ◌+◌, ◌-◌, ◌*◌, ◌<◌, ◌≤◌, cond, length, get_or, take, drop, sym, refl, ap, ◌∙◌, subst, mul_comm, zero-mul, arith, length-drop, length-take, rules}
+use Rattle.std.proofs.Common.{◌≡◌, ℕ, ◌+◌, ◌-◌, ◌*◌, ◌<◌, ◌≤◌, cond, length, get_or, take, drop, sym, ap, ◌∙◌, subst, mul_comm, zero-mul, arith}
 use borrow.Rule.Slice.PartMut.{put_mid}
 use Rattle.lattice.specs.Sums.{count_n}
 use Rattle.lattice.proofs.Sums.{sum_n_start}
 use Rattle.lattice.proofs.Cells.{row_next, row_fits_lem, lawful_grid}
-use Rattle.dynamics.specs.Tunnels.{RunState, cells}
+use Rattle.dynamics.specs.Tunnels.{RunState}
 use Rattle.dynamics.specs.States.{state_of}
 use Rattle.dynamics.specs.Step.{collided_at}
 use Rattle.dynamics.specs.Pushes.{turns_at}
@@ -38,36 +38,6 @@ loop-row-init g c =
       sum_n_start (λ i. cond (turns_at t i) 1 0) ∙ ap (λ (n : ℕ). count_n n (turns_at t)) z,
       ap (λ (n : ℕ). asked n s) z,
     )
-
-pub slice_bounds-row_pass-count : goal.slice_bounds-row_pass-count
-slice_bounds-row_pass-count g c =
-    let grid = c.args.state.now.grid in
-    let start : c.loop-row.row * c.width-width.result ≡ c.loop-row.row * grid.width = ap (λ (x : ℕ). c.loop-row.row * x) c.width-width.ensures.value in
-    omega (arith, row_fits_lem c.loop-row.row grid.width grid.height (omega (arith, c.loop-row-test.true, c.height-height.ensures.value)), c.requires.spare, c.loop-row.auto.spare)
-
-pub slice_bounds-row_pass-start : goal.slice_bounds-row_pass-start
-slice_bounds-row_pass-start g c =
-    let grid = c.args.state.now.grid in
-    let start : c.loop-row.row * c.width-width.result ≡ c.loop-row.row * grid.width = ap (λ (x : ℕ). c.loop-row.row * x) c.width-width.ensures.value in
-    let f = row_fits_lem c.loop-row.row grid.width grid.height (omega (arith, c.loop-row-test.true, c.height-height.ensures.value)) in
-    let le : c.loop-row.row * c.width-width.result ≤ length c.loop-row.spare = omega (arith, c.requires.spare, c.loop-row.auto.spare) in
-    search rules
-
-pub row_pass-turned-requires : goal.row_pass-turned-requires
-row_pass-turned-requires g c =
-    let grid = c.args.state.now.grid in
-    let same = c.loop-row.invariant.2 in
-    let width : c.loop-row.state.grid.width ≡ grid.width = ap (λ (s : RunState). s.width) same in
-    let height : c.loop-row.state.grid.height ≡ grid.height = ap (λ (s : RunState). s.height) same in
-    let size : c.loop-row.state.grid.width * c.loop-row.state.grid.height ≡ grid.width * grid.height = ap cells same in
-    let start : c.loop-row.row * c.width-width.result ≡ c.loop-row.row * grid.width = ap (λ (x : ℕ). c.loop-row.row * x) c.width-width.ensures.value in
-    let f = row_fits_lem c.loop-row.row grid.width grid.height (omega (arith, c.loop-row-test.true, c.height-height.ensures.value)) in
-    record {
-      row = omega (arith, c.loop-row-test.true, c.height-height.ensures.value, height);
-      map = omega (arith, c.requires.map, size);
-      field = omega (arith, c.requires.field, size);
-      spare = simp (length-take, length-drop) (omega (arith, c.requires.spare, c.loop-row.auto.spare, width));
-    }
 
 pub overflow_add-turned : goal.overflow_add-turned
 overflow_add-turned g c =

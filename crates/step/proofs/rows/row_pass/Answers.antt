@@ -1,5 +1,4 @@
 use Rattle.std.proofs.Common.{◌≡◌, ℕ, ◌+◌, ◌*◌, ◌<◌, ◌≤◌, Bool, cond, length, get_or, sym, refl, ap, ◌∙◌, add-zero, add-one, arith, rules}
-use Rattle.lattice.proofs.Cells.{row_fits_lem}
 use Rattle.twist.specs.Model.{TwistModel}
 use Rattle.dynamics.specs.States.{state_of}
 use Rattle.dynamics.specs.Roles.{role_of}
@@ -12,18 +11,6 @@ use Rattle.step.proofs.rows.row_pass.Goals.{then-cell, else-cell}
 
 pub loop-column-init : goal.loop-column-init
 loop-column-init g c = (omega arith, row_none _ _, refl, refl)
-
-pub bounds-map-start : goal.bounds-map-start
-bounds-map-start g c =
-    let w = c.args.state.now.grid.width in
-    let start : c.args.row * c.width-width.result ≡ c.args.row * w = ap (λ (x : ℕ). c.args.row * x) c.width-width.ensures.value in
-    omega (arith, row_fits_lem c.args.row w c.args.state.now.grid.height c.requires.row, c.requires.map, c.loop-column-test.true, c.width-width.ensures.value)
-
-pub bounds-field-start : goal.bounds-field-start
-bounds-field-start g c =
-    let w = c.args.state.now.grid.width in
-    let start : c.args.row * c.width-width.result ≡ c.args.row * w = ap (λ (x : ℕ). c.args.row * x) c.width-width.ensures.value in
-    omega (arith, row_fits_lem c.args.row w c.args.state.now.grid.height c.requires.row, c.requires.field, c.loop-column-test.true, c.width-width.ensures.value)
 
 pub loop-column-preserved : goal.loop-column-preserved
 loop-column-preserved g c =

@@ -1,26 +1,8 @@
 use Rattle.std.proofs.Common.{◌≡◌, ℕ, ◌^◌, ◌≤◌, ℤ, pos, ◌+ℤ◌, ◌*ℤ◌, nat_abs, sym, ap, ◌∙◌, subst, arith, w64, SFits, to_z, of_z, rules}
 use Rattle.std.proofs.lemmas.Int.{ints, to_z-of_z}
 use Rattle.lattice.specs.declared.vector.Vector.{Vector}
-use Rattle.lattice.specs.Vectors.{vec, times}
-use Rattle.book.specs.Accounts.{fan_account, pushed}
 use Rattle.step.proofs.Products.{product_small}
 use Rattle.step.proofs.settling.settle_fan.Goals as goal
-
-pub counted-along-requires : goal.counted-along-requires
-counted-along-requires g c =
-    let m = g.G.Gas.model c.args.gas.now in
-    let laws = g.met.G.Gas.lawful c.args.gas.now in
-    let short = laws.short 0 (omega (arith, laws.some)) in
-    let f : SFits w64 c.vector-east.result.along = search rules in
-    (c.requires.turned, subst (λ (z : ℤ). nat_abs z ≤ 2) (sym (to_z-of_z w64 _ f ∙ ap (λ (v : Vector). v.along) c.vector-east.ensures)) short.0)
-
-pub counted-across-requires : goal.counted-across-requires
-counted-across-requires g c =
-    let m = g.G.Gas.model c.args.gas.now in
-    let laws = g.met.G.Gas.lawful c.args.gas.now in
-    let short = laws.short 0 (omega (arith, laws.some)) in
-    let f : SFits w64 c.vector-east.result.across = search rules in
-    (c.requires.turned, subst (λ (z : ℤ). nat_abs z ≤ 2) (sym (to_z-of_z w64 _ f ∙ ap (λ (v : Vector). v.across) c.vector-east.ensures)) short.1)
 
 -- what is counted, as the model has it
 counted_is : (n : ℕ) (r v w : ℤ) → SFits w64 r → SFits w64 v → r ≡ pos n *ℤ to_z w64 (of_z w64 v) → v ≡ w → to_z w64 (of_z w64 r) ≡ pos n *ℤ w
@@ -55,11 +37,3 @@ push-requires g c =
       along = far_fits _ p _ c.requires.along (product_small c.args.turned (m.vector 0).along c.requires.turned short.0) (ap (λ (v : Vector). v.along) c.twice.ensures ∙ ap (λ (z : ℤ). pos 2 *ℤ z) x);
       across = far_fits _ q _ c.requires.across (product_small c.args.turned (m.vector 0).across c.requires.turned short.1) (ap (λ (v : Vector). v.across) c.twice.ensures ∙ ap (λ (z : ℤ). pos 2 *ℤ z) y);
     }
-
-pub returns : goal.returns
-returns g c =
-    let m = g.G.Gas.model c.args.gas.now in
-    let x = counted_is c.args.turned c.counted-along.result c.vector-east.result.along (m.vector 0).along (search rules) (search rules) c.counted-along.ensures (ap (λ (v : Vector). v.along) c.vector-east.ensures) in
-    let y = counted_is c.args.turned c.counted-across.result c.vector-east.result.across (m.vector 0).across (search rules) (search rules) c.counted-across.ensures (ap (λ (v : Vector). v.across) c.vector-east.ensures) in
-    c.push.ensures
-    ∙ ap (pushed c.args.book.now.accounts fan_account) (c.twice.ensures ∙ (λ j. times (pos 2) (vec (x j) (y j))))

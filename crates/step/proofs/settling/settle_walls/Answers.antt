@@ -8,7 +8,6 @@ use Rattle.book.specs.declared.table.Book.{Book}
 use Rattle.book.specs.Accounts.{none}
 use Rattle.dynamics.specs.Roles.{role_of, is_wall_of}
 use Rattle.step.specs.Settling.{push_up_to, Settled}
-use Rattle.step.proofs.Stretches.{part_long}
 use Rattle.step.proofs.Settles.{wall_byte, no_wall, sum_fits, settled_none, settled_skip, settled_clear, settled_more, push_small}
 use Rattle.step.proofs.settling.settle_walls.Goals as goal
 use Rattle.step.proofs.settling.settle_walls.Goals.{in-Wall, in_default}

@@ -1,4 +1,4 @@
-use Rattle.std.proofs.Common.{◌≡◌, ℕ, ◌+◌, ◌*◌, ◌^◌, ◌≤◌, List, length, get_or, pos, nat_abs, sym, ap, ◌∙◌, subst, arith, rules}
+use Rattle.std.proofs.Common.{◌≡◌, ℕ, ◌+◌, ◌^◌, ◌≤◌, List, get_or, pos, nat_abs, sym, ap, ◌∙◌, subst, arith}
 use Rattle.lattice.specs.Vectors.{times}
 use Rattle.lattice.specs.declared.vector.Vector.{Vector as Account}
 use Rattle.gas.specs.Streaming.{arriving}
@@ -9,50 +9,9 @@ use Rattle.dynamics.specs.Pushes.{book_after}
 use Rattle.step.specs.Results.{Filled}
 use Rattle.step.specs.Scenes.{scene_of}
 use Rattle.step.proofs.Overlays.{take_long, filled_over}
-use Rattle.step.proofs.StepResults.{field_after, book_after_lem, fan_far, modest, cut_long, settled_cut}
+use Rattle.step.proofs.StepResults.{field_after, book_after_lem, fan_far, modest, settled_cut}
 use Rattle.step.proofs.RowScenes.{count_few}
 use Rattle.step.proofs.steps.step.Goals as goal
-
-pub slice_bounds-settle_walls-end : goal.slice_bounds-settle_walls-end
-slice_bounds-settle_walls-end g c =
-    let n = c.args.state.now.grid.width * c.args.state.now.grid.height in
-    let long : n ≤ length c.args.map.now = take_long n c.args.map.now c.requires.sound.map_long in
-    let fits : c.cells-cells.result ≤ length c.args.map.now = omega (arith, c.cells-cells.ensures.value) in
-    search rules
-
-pub slice_bounds-settle_walls-end-2 : goal.slice_bounds-settle_walls-end-2
-slice_bounds-settle_walls-end-2 g c =
-    let n = c.args.state.now.grid.width * c.args.state.now.grid.height in
-    let long : n ≤ length c.args.field.now = take_long n c.args.field.now c.requires.sound.field_long in
-    let fits : c.cells-cells.result ≤ length c.args.field.now = omega (arith, c.cells-cells.ensures.value) in
-    search rules
-
-pub settle_walls-requires : goal.settle_walls-requires
-settle_walls-requires g c =
-    let s = c.args.state.now in
-    let n = s.grid.width * s.grid.height in
-    let map_long = cut_long n c.cells-cells.result c.args.map.now c.cells-cells.ensures.value c.requires.sound.map_long in
-    let field_long = cut_long n c.cells-cells.result c.args.field.now c.cells-cells.ensures.value c.requires.sound.field_long in
-    record {
-      lengths = (map_long ∙ sym field_long, omega (arith, map_long, c.requires.sound.run.grid.few));
-      modest = modest s.book.accounts s.steps c.requires.steps c.requires.sound.run.book;
-    }
-
-pub collide_rows-turned-requires : goal.collide_rows-turned-requires
-collide_rows-turned-requires g c =
-    let n = c.args.state.now.grid.width * c.args.state.now.grid.height in
-    record {
-      map = take_long n c.args.map.now c.requires.sound.map_long;
-      field = take_long n c.args.field.now c.requires.sound.field_long;
-      spare = c.requires.spare;
-    }
-
-pub stream_rows-requires : goal.stream_rows-requires
-stream_rows-requires g c =
-    let n = c.args.state.now.grid.width * c.args.state.now.grid.height in
-    let size : c.collide_rows-turned.new.state.grid.width * c.collide_rows-turned.new.state.grid.height ≡ n = ap cells c.collide_rows-turned.ensures.run in
-    let long = take_long n c.args.field.now c.requires.sound.field_long in
-    record { from = omega (arith, c.requires.spare, c.collide_rows-turned.auto.spare, size); field = omega (arith, long, size) }
 
 pub settle_fan-requires : goal.settle_fan-requires
 settle_fan-requires g c =

@@ -1,18 +1,11 @@
-use Rattle.std.proofs.Common.{◌≡◌, ◌+◌, ◌*◌, sym, refl, ap, ◌∙◌, subst, arith}
+use Rattle.std.proofs.Common.{◌≡◌, ◌+◌, ◌*◌, sym, ap, ◌∙◌, subst, arith}
 use Rattle.dynamics.specs.Tunnels.{RunState, cells}
 use Rattle.dynamics.specs.States.{state_of}
 use Rattle.dynamics.specs.Soundness.{SoundTunnel}
 use Rattle.dynamics.proofs.Whole.{steps_keep}
 use Rattle.step.specs.Scenes.{scene_of}
-use Rattle.step.proofs.Again.{over_own, same, scene_again, taken_more}
+use Rattle.step.proofs.Again.{same, scene_again, taken_more}
 use Rattle.step.proofs.steps.take_steps.Goals as goal
-
-pub loop-done-init : goal.loop-done-init
-loop-done-init g c = record {
-  field_is = over_own (cells (state_of g.G.Gas g.S.TwistSource c.args.gas.now c.args.state.now)) c.args.field.now c.requires.sound.field_long;
-  spare_is = refl;
-  run_is = refl;
-}
 
 pub step-requires : goal.step-requires
 step-requires g c =

@@ -1,28 +1,11 @@
-use Rattle.std.proofs.Common.{◌≡◌, ℕ, ◌+◌, ◌-◌, ◌*◌, ◌<◌, ◌≤◌, Bool, true, ◌&&◌, ltb, leb, length, get_or, take, drop, sym, ap, ◌∙◌, subst, mul_comm, arith, rules}
+use Rattle.std.proofs.Common.{◌≡◌, ℕ, ◌+◌, ◌-◌, ◌*◌, ◌<◌, ◌≤◌, Bool, true, ◌&&◌, ltb, leb, length, get_or, take, drop, sym, ap, ◌∙◌, subst, arith}
 use borrow.Rule.Slice.PartMut.{put_mid}
 use Rattle.std.proofs.lemmas.Bool.{lt-ltb, le-leb}
 use Rattle.lattice.proofs.Cells.{row_fits_lem}
 use Rattle.gas.specs.Streaming.{arriving, row_fits}
 use Rattle.step.specs.Results.{Filled}
-use Rattle.step.proofs.Stretches.{part_long, filled_none, filled_more}
+use Rattle.step.proofs.Stretches.{part_long, filled_more}
 use Rattle.step.proofs.streams.stream_rows.Goals as goal
-
-pub loop-row-init : goal.loop-row-init
-loop-row-init g c = filled_none _ c.args.field.now c.args.grid.width
-
-pub slice_bounds-stream_row-count : goal.slice_bounds-stream_row-count
-slice_bounds-stream_row-count g c =
-    let w = c.args.grid.width in
-    let start : c.loop-row.row * c.width-width.result ≡ c.loop-row.row * w = ap (λ (x : ℕ). c.loop-row.row * x) c.width-width.ensures.value in
-    omega (arith, row_fits_lem c.loop-row.row w c.args.grid.height (omega (arith, c.loop-row-test.true, c.height-height.ensures.value)), c.requires.field, c.loop-row.auto.field)
-
-pub slice_bounds-stream_row-start : goal.slice_bounds-stream_row-start
-slice_bounds-stream_row-start g c =
-    let w = c.args.grid.width in
-    let start : c.loop-row.row * c.width-width.result ≡ c.loop-row.row * w = ap (λ (x : ℕ). c.loop-row.row * x) c.width-width.ensures.value in
-    let f = row_fits_lem c.loop-row.row w c.args.grid.height (omega (arith, c.loop-row-test.true, c.height-height.ensures.value)) in
-    let le : c.loop-row.row * c.width-width.result ≤ length c.loop-row.field = omega (arith, c.requires.field, c.loop-row.auto.field) in
-    search rules
 
 both : (a b : Bool) → a ≡ true → b ≡ true → (a && b) ≡ true
 both a b p q = ap (λ (x : Bool). x && b) p ∙ q
@@ -51,10 +34,3 @@ loop-row-preserved g c =
     (told.row fit)
     (λ q l. told.rest fit q l ∙ ap (λ (v : ℕ). get_or (take (length xs - r * v) (drop (r * v) xs)) q 0) wide)
     c.loop-row.invariant)
-
-pub returns : goal.returns
-returns g c =
-    let w = c.args.grid.width in
-    let h = c.args.grid.height in
-    let end : c.loop-row.row * w ≡ w * h = ap (λ (x : ℕ). x * w) (let q : c.loop-row.row ≡ h = omega (arith, c.loop-row-test.false, c.loop-row.auto.row-end, c.height-height.ensures.value) in q) ∙ mul_comm h w in
-    subst (λ (n : ℕ). Filled n (arriving (g.G.Gas.model c.args.gas.now) w h c.args.from.now) c.args.field.now c.loop-row.field) end c.loop-row.invariant
