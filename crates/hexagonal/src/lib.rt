@@ -22,6 +22,7 @@ pub use table::HexagonalGas;
 /// Where each channel leads: along the tunnel, and across it.
 const HEADINGS: [(i64, i64); 7] = [(2, 0), (1, 1), (-1, 1), (-2, 0), (-1, -1), (1, -1), (0, 0)];
 
+// As the type, so `new` and `house`: each gas has its own rules. Its half turn is its own too: with two numbers handed over it would be longer.
 impl HexagonalGas {
     /// A hexagonal gas with the house rules.
     pub fn new() -> HexagonalGas

@@ -13,7 +13,7 @@ pub struct Rows {
     pub north: usize,
 }
 
-// A row is asked for by its number: a type for rows of a grid would carry the grid along, and say no more.
+// A row is asked for by its number, here and above: a type for rows of a grid would have to carry the grid along.
 /// The rows around this row of the grid.
 pub fn rows_around(grid: Grid, row: usize) -> Rows
     requires { row < grid.height }

@@ -18,6 +18,7 @@ fn refusal(heap: Global, fault: &CallFault) -> Result<Vec<u8>, AllocError>
     Ok(line.into_bytes())
 }
 
+// The buffers go on one by one, as `choose` asks for them.
 /// The report of a job, or its refusal, by way of these buffers.
 fn print_job(
     heap: Global,

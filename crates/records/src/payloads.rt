@@ -6,6 +6,7 @@ ghost use Rattle.records.specs.Layout.{Inside, payload_at};
 
 use super::kinds::Kind;
 
+// A place and no slice: laws and tests tell where a payload begins.
 /// A known record's number, counted from 0 with the skipped ones, and the place of its payload in the file.
 #[derive(Clone, Copy, Debug, Default, PartialEq, Eq, Hash)]
 pub struct Place {

@@ -25,6 +25,7 @@ struct Cursor {
     places: Places,
 }
 
+// What is asked of a cursor differs from call to call: how far the file reaches behind it.
 impl Cursor {
     fn new() -> Cursor
         ensures { result ≡ begin }
@@ -85,6 +86,7 @@ fn judge_record(bytes: &[u8], c: Cursor) -> Result<ControlFlow<Places, Cursor>, 
         return Err(RecordFault::Check(record));
     }
     let mut order = c.order;
+    // No `From`: an order's fault does not know its record.
     match order.accept(header.kind) {
         Err(OrderFault::Unknown) => Err(RecordFault::Kind(record)),
         Err(OrderFault::NotNext) => Err(RecordFault::Order(record)),

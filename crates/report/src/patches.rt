@@ -16,6 +16,7 @@ use gas::{Gas, Totals, field_totals};
 use text::Sheet;
 
 impl<'a, G: Gas> Shown<'a, G> {
+    // Stretches and blocks are told by numbers: each is asked for once, and made anew for every patch and row.
     /// The particles of so many cells of a row, from this column on, and their momentum.
     fn stretch_totals(&self, column: usize, row: usize, count: usize) -> Totals
         requires columns { column + count ≤ self.now.grid.width }

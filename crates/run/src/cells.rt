@@ -7,7 +7,7 @@ ghost use Rattle.calls.specs.Law.{LogLaw};
 
 use super::judging::{judge_length, judge_map};
 use super::run::Run;
-use book::Book;
+use super::settings::fresh;
 use faults::CallFault;
 use gas::Gas;
 use job::grid_fault;
@@ -40,13 +40,8 @@ impl<G: Gas, S: TwistSource> Run<G, S> {
     fn restart(&mut self, grid: Grid)
         ensures { view G.Gas S.TwistSource self.new ≡ blank_run (G.Gas.model self.old.gas) (S.TwistSource.model self.old.state.source) grid.width grid.height }
     {
-        let first = self.state.source.first_mark();
         self.gas.house();
-        let _ = self.state.source.set_mark(first);
-        self.state.grid = grid;
-        self.state.period = 0;
-        self.state.steps = 0;
-        self.state.book = Book::new();
+        self.state = fresh(self.state.source, grid);
     }
 
     /// Makes the cell in this column and row of this kind: 0 open, 1 to 15 a wall of that obstacle, 16 a fan cell.

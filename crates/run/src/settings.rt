@@ -1,5 +1,6 @@
 // Making a run, its fan and its accounts.
-ghost use Rattle.std.specs.Prelude.{◌≡◌};
+ghost use Rattle.std.specs.Prelude.{◌≡◌, replicate};
+ghost use Rattle.book.specs.Accounts.{accounts, none};
 ghost use Rattle.run.specs.View.{view};
 ghost use Rattle.calls.specs.Calls.{blank_run, Fanned, Told};
 
@@ -11,22 +12,34 @@ use gas::Gas;
 use lattice::Grid;
 use twist::TwistSource;
 
+/// The state that a run begins with on this grid: the first twist mark, period 0, step 0, a book of zeros.
+pub(crate) fn fresh<S: TwistSource>(source: S, grid: Grid) -> State<S>
+    ensures grid { result.grid ≡ grid }
+    ensures period { result.period ≡ 0 }
+    ensures steps { result.steps ≡ 0 }
+    ensures book { result.book.accounts ≡ replicate accounts none }
+    ensures mark { S.TwistSource.mark result.source ≡ (S.TwistSource.model source).first }
+    ensures source { S.TwistSource.model result.source ≡ S.TwistSource.model source }
+{
+    let mut source = source;
+    let _ = source.set_mark(source.first_mark());
+    State {
+        source,
+        grid,
+        period: 0,
+        steps: 0,
+        book: Book::new(),
+    }
+}
+
 impl<G: Gas, S: TwistSource> Run<G, S> {
     /// A new run is as after `blank` (2, 2): house rules, the first twist mark, period 0, step 0, a book of zeros.
     pub fn new(gas: G, source: S) -> Run<G, S>
         ensures { view G.Gas S.TwistSource result ≡ blank_run (G.Gas.model gas) (S.TwistSource.model source) 2 2 }
     {
         let mut gas = gas;
-        let mut source = source;
         gas.house();
-        let _ = source.set_mark(source.first_mark());
-        let state = State {
-            source,
-            grid: Grid::smallest(),
-            period: 0,
-            steps: 0,
-            book: Book::new(),
-        };
+        let state = fresh(source, Grid::smallest());
         Run { gas, state }
     }
 

@@ -23,6 +23,7 @@ const HOUSE: [u8; 32] = [
 /// Where each channel leads: along the tunnel, and across it.
 const HEADINGS: [(i64, i64); 4] = [(1, 0), (0, 1), (-1, 0), (0, -1)];
 
+// As the type, so `new` and `house`: each gas has its own rules. Its half turn is its own too: with two numbers handed over it would be longer.
 impl SquareGas {
     /// A square gas with the house rules.
     pub fn new() -> SquareGas

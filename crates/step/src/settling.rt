@@ -1,4 +1,5 @@
 // The pushes of a step on the book.
+// Lengths are asked for call by call, as in the collision.
 ghost use Rattle.std.specs.Prelude.{◌≡◌, ℕ, ◌^◌, ◌≤◌, true, length, pos, ◌*ℤ◌, slice_index_or, unsigned_abs};
 ghost use Rattle.lattice.specs.Vectors.{times};
 ghost use Rattle.book.specs.Accounts.{none, fan_account, pushed};

@@ -1,4 +1,5 @@
 // One step, and as many as are asked for.
+// Lengths are asked for call by call, as in the collision.
 ghost use Rattle.std.specs.Prelude.{◌≡◌, ℕ, ◌+◌, ◌*◌, ◌≤◌, length};
 ghost use Rattle.dynamics.specs.Soundness.{SoundTunnel};
 ghost use Rattle.dynamics.specs.States.{state_of};

@@ -1,4 +1,5 @@
 // Streaming: each particle moves to the neighbour by its channel, row by row.
+// Lengths are asked for call by call, as in the collision.
 ghost use Rattle.std.specs.Prelude.{◌≡◌, ℕ, ◌*◌, ◌≤◌, length};
 ghost use Rattle.gas.specs.Streaming.{arriving};
 ghost use Rattle.step.specs.Results.{Filled};
