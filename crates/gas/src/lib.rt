@@ -63,8 +63,8 @@ pub trait Gas {
         ensures { result ≡ particles_of (model self.now) state }
     {
         (0..self.channels())
-            .filter(|channel| held(state, *channel))
-            .count() as u8
+            .map(|channel| u8::from(held(state, channel)))
+            .sum()
     }
 
     /// The sum of the vectors of a state's particles.

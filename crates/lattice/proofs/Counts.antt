@@ -12,7 +12,7 @@ range_more n p =
     ∙ sum_by-map-range_with_len_more (λ x. cond (p x) 1 0) (λ x. x) 0 n n (zero-add n)
     ∙ ap (λ (xs : List ℕ). count_by p xs + cond (p n) 1 0) (map-id (range_with_len 0 n))
 
-count-range : (n : ℕ) (p : ℕ → Bool) → count_by p (range_with_len 0 n) ≡ count_n n p
+pub count-range : (n : ℕ) (p : ℕ → Bool) → count_by p (range_with_len 0 n) ≡ count_n n p
 unfolding sum_n
 count-range zero p = refl
 count-range (suc n) p = ap (λ (k : ℕ). count_by p (range_with_len 0 k)) (sym (add-one n)) ∙ range_more n p ∙ ap (λ (k : ℕ). k + cond (p n) 1 0) (count-range n p)
