@@ -10,7 +10,7 @@ use Rattle.std.specs.Str.{IsUtf8}
 use Rattle.std.specs.Str.Parse.{AllDigits, digits_value, ParsesUnsigned}
 use Rattle.std.proofs.lemmas.Option.{none-some, same_Some}
 use Rattle.std.proofs.lemmas.Bool.{le-leb, lt-leb, leb-true, and_parts, cases_lt}
-use Rattle.std.proofs.lemmas.Fmt.{decimal_digit, decimal_nonempty, decimal_is_IsNumeral, first_decimal, decimal_injective, decimal-digits_value, parse-decimal, IsAscii-decimal}
+use Rattle.std.proofs.lemmas.Fmt.{decimal_digit, decimal_nonempty, length-decimal-le, decimal_is_IsNumeral, first_decimal, decimal_injective, decimal-digits_value, parse-decimal, IsAscii-decimal}
 use Rattle.std.proofs.lemmas.Str.{IsUtf8-from_ascii}
 use Rattle.std.proofs.lemmas.Str.Parse.{IsNumeralModel, numerals_by_value, tells_digits, digit_at, parse_plain}
 use Rattle.lattice.proofs.Firsts.{first-none, first_some}
@@ -53,6 +53,9 @@ is_kept (Err e) x some = absurd (none-some x (sym some))
 module _ (most : ℕ) (small : most < 2 ^ 32) (text : List ℕ) where
   pub empty_none : length text ≡ 0 → number_up_to most text ≡ None
   empty_none e = none_up_to most text (λ k low high is. omega (arith, e, ap length is, decimal_nonempty k (omega (arith, high, small))))
+
+  pub long_none : 10 < length text → number_up_to most text ≡ None
+  long_none long = none_up_to most text (λ k low high is. omega (arith, long, ap length is, length-decimal-le 10 k (omega arith) (omega (arith, high, small)) (omega (arith, high, small))))
 
   -- a decimal text begins with a digit from 1 to 9
   pub stray_none : (IsInRange 49 57 (get_or text 0 0) → ⊥) → number_up_to most text ≡ None

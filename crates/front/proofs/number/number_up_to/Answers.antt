@@ -3,9 +3,12 @@ use Rattle.std.proofs.lemmas.Grind.{common_steps}
 use Rattle.std.proofs.lemmas.Result.{MatchResult-at_ok}
 use Rattle.std.specs.Str.Parse.{ParsesUnsigned}
 use Rattle.std.specs.Int.{IsInRange}
-use Rattle.front.proofs.Numbers.{empty_none, stray_none, no_text_none, unread_none, if_none, is_kept, limited_number, limited_range}
+use Rattle.front.proofs.Numbers.{empty_none, long_none, stray_none, no_text_none, unread_none, if_none, is_kept, limited_number, limited_range}
 use Rattle.front.proofs.number.number_up_to.Goals as goal
 use Rattle.front.proofs.number.number_up_to.Goals.{In_ok-number}
+
+pub returns-then-text-gt-MOST_DIGITS-clause-value : goal.returns-then-text-gt-MOST_DIGITS-clause-value
+returns-then-text-gt-MOST_DIGITS-clause-value c = sym (long_none c.args.most c.ranges.most.fits c.args.text.now c.if-text-gt-MOST_DIGITS.true)
 
 pub returns-in_err-first-clause-value : goal.returns-in_err-first-clause-value
 returns-in_err-first-clause-value c =
