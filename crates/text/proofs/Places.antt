@@ -1,5 +1,5 @@
 -- Texts put into a buffer one behind the other.
-use Rattle.std.proofs.Common.{◌≡◌, ℕ, zero, suc, ◌+◌, ◌-◌, ◌^◌, ◌<◌, ◌≤◌, min, List, [], ◌∷◌, ◌++◌, length, sym, refl, ap, ◌∙◌, subst, inl, inr, suc-add, zero-add, arith, length-append}
+use Rattle.std.proofs.Common.{◌≡◌, ℕ, zero, suc, ◌+◌, ◌-◌, ◌^◌, ◌<◌, ◌≤◌, min, List, [], ◌∷◌, ◌++◌, length, set, sym, refl, ap, ◌∙◌, subst, inl, inr, suc-add, zero-add, arith, length-append}
 use Rattle.std.proofs.lemmas.Bool.{cases_order}
 use Rattle.text.specs.Buffers.{put, behind, Puts, over}
 
@@ -29,6 +29,12 @@ unfolding put
 put-none [] at = refl
 put-none (x ∷ out) (suc at) = ap (λ (o : List ℕ). x ∷ o) (put-none out at)
 put-none (x ∷ out) zero = refl
+
+put_one : (out : List ℕ) (at y : ℕ) → put out at (y ∷ []) ≡ set out at y
+unfolding put
+put_one [] at y = refl
+put_one (x ∷ out) (suc at) y = ap (λ (o : List ℕ). x ∷ o) (put_one out at y)
+put_one (x ∷ out) zero y = ap (λ (o : List ℕ). y ∷ o) (put-none out 0)
 
 -- a text that fits, from the first place on
 put_all : (out text : List ℕ) → length text ≤ length out → put out 0 text ≡ over text out
@@ -61,6 +67,11 @@ puts_then {s} {t} {out} {o} {o'} {at} {e} {e'} short a b = record {
       ∙ same_place (put out at s) (at + length s) e t (omega (arith, length-put out at s)) a.end_is
       ∙ put-put out at s t;
 }
+
+-- one byte, where there is a place for it
+pub puts_byte : {out o : List ℕ} {at e : ℕ} (y : ℕ) → e ≡ min (at + 1) (2 ^ 64 - 1) → o ≡ set out at y → Puts (y ∷ []) out at e o
+unfolding behind
+puts_byte {out} {o} {at} {e} y end after = record { end_is = end; after_is = after ∙ sym (put_one out at y) }
 
 -- the same text in other words
 pub puts_same : {s t out o : List ℕ} {at e : ℕ} → s ≡ t → Puts s out at e o → Puts t out at e o

@@ -3,7 +3,7 @@ use Rattle.std.proofs.lemmas.Slice.{put_mid-paste}
 use Rattle.std.proofs.lemmas.List.Edits.{paste_all}
 use Rattle.text.specs.Buffers.{behind}
 use Rattle.text.proofs.Slices.{put_slices}
-use Rattle.text.proofs.sheet.Sheet.put_bytes.Goals as goal
+use Rattle.text.proofs.sheet.Sheet.put_piece.Goals as goal
 
 pub returns : goal.returns
 unfolding behind
