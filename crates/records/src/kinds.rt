@@ -1,7 +1,6 @@
 // The kinds of record that a file is made of, and their numbers.
 ghost use Rattle.std.specs.Prelude.{◌≡◌};
 ghost use Rattle.records.specs.Kinds.{number_of, Numbered};
-ghost use Rattle.records.specs.Orders.{following};
 
 /// A record that a file is made of, in the order of their numbers, from 1.
 #[derive(Clone, Copy, Debug, PartialEq, Eq, Hash)]
@@ -47,22 +46,6 @@ impl TryFrom<u8> for Kind {
             5 => Ok(Kind::Field),
             6 => Ok(Kind::Book),
             _ => Err(UnknownKind),
-        }
-    }
-}
-
-impl Kind {
-    // The kind that comes next in a file; none behind the end.
-    pub(crate) fn following(self) -> Option<Kind>
-        ensures { result ≡ following (Some self) }
-    {
-        match self {
-            Kind::Head => Some(Kind::Rules),
-            Kind::Rules => Some(Kind::Map),
-            Kind::Map => Some(Kind::Field),
-            Kind::Field => Some(Kind::Book),
-            Kind::Book => Some(Kind::End),
-            Kind::End => None,
         }
     }
 }

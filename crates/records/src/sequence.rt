@@ -39,10 +39,15 @@ impl Order {
             return Ok(None);
         }
         let kind = Kind::try_from(number).map_err(|_| OrderFault::Unknown)?;
-        if self.next != Some(kind) {
-            return Err(OrderFault::NotNext);
-        }
-        self.next = kind.following();
+        self.next = match (self.next, kind) {
+            (Some(Kind::Head), Kind::Head) => Some(Kind::Rules),
+            (Some(Kind::Rules), Kind::Rules) => Some(Kind::Map),
+            (Some(Kind::Map), Kind::Map) => Some(Kind::Field),
+            (Some(Kind::Field), Kind::Field) => Some(Kind::Book),
+            (Some(Kind::Book), Kind::Book) => Some(Kind::End),
+            (Some(Kind::End), Kind::End) => None,
+            _ => return Err(OrderFault::NotNext),
+        };
         Ok(Some(kind))
     }
 }
