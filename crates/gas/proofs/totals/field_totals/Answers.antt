@@ -1,5 +1,5 @@
 -- The sums so far, and with one state more.
-use Rattle.std.proofs.Common.{◌≡◌, ℕ, ◌*◌, ◌≤◌, length, get_or, sym, ap, ◌∙◌, ap₂, subst, arith}
+use Rattle.std.proofs.Common.{◌≡◌, ℕ, ◌*◌, ◌≤◌, length, get_or, sym, ap, ◌∙◌, ap₂, subst, rules, arith}
 use Rattle.std.proofs.lemmas.Int.{ints}
 use Rattle.lattice.specs.Vectors.{still, added, sum_v}
 use Rattle.lattice.proofs.Sums.{sum_n_start, sum_n_more}
@@ -48,4 +48,5 @@ returns-clause-momentum g c =
     let m = g.G.Gas.model c.args.gas.now in
     let xs = c.args.field.now in
     let end : c.loop-state.state-index ≡ length xs = omega (arith, c.loop-state-test.false) in
-    c.loop-state.invariant.1 ∙ ap (λ (n : ℕ). sum_v n (λ i. momentum m (get_or xs i 0))) end
+    let all = c.loop-state.invariant.1 ∙ ap (λ (n : ℕ). sum_v n (λ i. momentum m (get_or xs i 0))) end in
+    search (rules, all)
